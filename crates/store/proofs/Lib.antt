@@ -1,0 +1,4 @@
+pub mod Asked
+pub mod Blocks
+pub mod Laws
+pub mod Parts
