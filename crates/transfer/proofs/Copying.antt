@@ -4,11 +4,9 @@ use Prim.Native.Nat.{ℕ, suc, _+_, _-_, _<_, _≤_}
 use native.Mathlib.Omega.{arith}
 use Rattle.std.specs.declared.result.Result.{Result}
 use Rattle.std.specs.declared.result.Result.the-variants.{Ok, Err}
-use Rattle.store.specs.declared.life.Fault.{Fault}
-use Rattle.store.specs.Stores.{Stored, after-read, read-answer}
-use Rattle.store.proofs.Laws.{cells-stay}
+use Rattle.store.specs.Stores.{Stored}
 use Rattle.transfer.specs.declared.Stop.{Stop}
-use Rattle.transfer.specs.Copies.{Moved, moved, put-on, copied-cell, copied-from, go-on}
+use Rattle.transfer.specs.Copies.{Moved, moved, copied-cell, copied-from, go-on}
 
 module _ {C : Type 0} (n i : ℕ) (a b : Stored C) where
   -- a cell that is left to copy is copied first
@@ -31,14 +29,3 @@ module _ {C : Type 0} (n i : ℕ) (a b : Stored C) where
   pub all-copied : n ≤ i → moved a b (Ok tt) ≡ copied-from (n - i) i a b
   unfolding copied-from
   all-copied h = let e : n - i ≡ 0 = omega arith in rw e refl
-
--- the source keeps its cells
-from-read : {C : Type 0} (a b : Stored C) (i : ℕ) (r : Result C Fault) → put-on a b i r .from ≡ a
-from-read a b i (Ok v) = refl
-from-read a b i (Err e) = refl
-
-pub source-stays : {C : Type 0} (a b a′ b′ : Stored C) (i : ℕ) (r : Result (Unit {0}) Stop) → moved a′ b′ r ≡ copied-cell a b i → a′ .cells ≡ a .cells
-source-stays {C = C} a b a′ b′ i r e =
-    ap (λ (m : Moved C). m .from .cells) e
-    ∙ ap (λ (s : Stored C). s .cells) (from-read (after-read a i) b i (read-answer a i))
-    ∙ cells-stay (read-answer a i) a

@@ -70,7 +70,23 @@ pub fn copy<A: Store, B: Store<Cell = A::Cell>>(
     ensures source { λ _. ⌜ A·Store .rest (now (from .exit)) ≡ A·Store .rest (now (from .entry)) ⌝ }
     ensures target { λ _. ⌜ B·Store .rest (now (to .exit)) ≡ B·Store .rest (now (to .entry)) ⌝ }
 {
-    for i in start..from.count() {
+    let end = from.count();
+    copy_part(from, to, start, end)
+}
+
+// The same up to the cell `end`.
+fn copy_part<A: Store, B: Store<Cell = A::Cell>>(
+    from: &mut A,
+    to: &mut B,
+    start: usize,
+    end: usize,
+) -> Result<(), Stop>
+    ensures copied { λ r. ⌜ moved (stored (A·Store .cells (now (from .exit))) (A·Store .life (now (from .exit)))) (stored (B·Store .cells (now (to .exit))) (B·Store .life (now (to .exit)))) r ≡ copied-from (end - start) start (stored (A·Store .cells (now (from .entry))) (A·Store .life (now (from .entry)))) (stored (B·Store .cells (now (to .entry))) (B·Store .life (now (to .entry)))) ⌝ }
+    ensures laid { λ r. ⌜ Overlaid start (reached (max start end) r) (A·Store .cells (now (from .entry))) (B·Store .cells (now (to .entry))) (B·Store .cells (now (to .exit))) ⌝ }
+    ensures source { λ _. ⌜ A·Store .rest (now (from .exit)) ≡ A·Store .rest (now (from .entry)) ⌝ }
+    ensures target { λ _. ⌜ B·Store .rest (now (to .exit)) ≡ B·Store .rest (now (to .entry)) ⌝ }
+{
+    for i in start..end {
         copy_cell(from, to, i)?;
     }
     Ok(())

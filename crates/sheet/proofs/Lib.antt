@@ -1,0 +1,4 @@
+pub mod Justified
+pub mod Own
+pub mod Scans
+pub mod Written
