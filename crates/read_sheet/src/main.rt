@@ -1,8 +1,8 @@
 // Reads a step sheet from standard input, at most 64 lines, and says what each line holds.
 // A refused line is printed in columns, and ends the output.
+use rules::step::Step;
 use sheet::OutputLine;
 use sheet::Reader;
-use sheet::Step;
 use std::io;
 use std::io::Read;
 use std::io::Write;

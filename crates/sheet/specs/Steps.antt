@@ -6,7 +6,7 @@ use Rattle.sheet.specs.Sheet.{Seen, blank-at, digits-at}
 use Rattle.sheet.specs.Text.{number-of}
 use Rattle.sheet.specs.declared.fields.Field.{Field}
 use Rattle.sheet.specs.declared.lines.Line.{Line}
-use Rattle.sheet.specs.declared.lines.Step.{Step}
+use Rattle.rules.specs.declared.step.Step.{Step}
 
 -- the number of a field: a blank one reads as 0, and so do bytes that no reader hands out
 abbrev pub seen-number : Seen → ℕ

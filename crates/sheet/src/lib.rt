@@ -20,7 +20,6 @@ pub use fields::Refusal;
 pub use fields::RefusalDebug;
 pub use fields::RefusalPartialEq;
 pub use lines::Line;
-pub use lines::Step;
 pub use output::OutputLine;
 pub use reader::Reader;
 pub use reader::hands_out_its_own;

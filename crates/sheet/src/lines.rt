@@ -2,6 +2,7 @@
 ghost use mathlib.Core.Path.{_≡_};
 ghost use Rattle.sheet.specs.Steps.{step-of};
 use crate::fields::Field;
+use rules::step::Step;
 
 // The five fields of a line.
 #[derive(Clone, Copy)]
@@ -11,16 +12,6 @@ pub struct Line<'a> {
     pub cell: Field<'a>,
     pub first: Field<'a>,
     pub second: Field<'a>,
-}
-
-// The five numbers of a line.
-#[derive(Clone, Copy)]
-pub struct Step {
-    pub call: u32,
-    pub client: u32,
-    pub cell: u32,
-    pub first: u32,
-    pub second: u32,
 }
 
 impl Line<'_> {

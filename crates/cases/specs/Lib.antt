@@ -1,0 +1,5 @@
+pub mod Setting
+pub mod Sheets
+pub mod Cases
+pub mod Readings
+pub mod Turned

@@ -1,0 +1,12 @@
+pub mod Ways
+pub mod Sight
+pub mod Invariant
+pub mod Steps
+pub mod Plays
+pub mod Starts
+pub mod Theorem
+pub mod Shapes
+pub mod Refusals
+pub mod Sizes
+pub mod Fits
+pub mod Carried

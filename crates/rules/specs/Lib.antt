@@ -1,0 +1,9 @@
+pub mod Site
+pub mod Making
+pub mod Calls
+pub mod Replies
+pub mod Runs
+pub mod Book
+pub mod History
+pub mod Claim
+pub mod Carry
