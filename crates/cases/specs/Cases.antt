@@ -15,7 +15,8 @@ use Rattle.rules.specs.Making.{making}
 use Rattle.rules.specs.Replies.{Open, Read, Write, Begin, Commit, Close, Invalidate, RestartClient, RestartServer}
 use Rattle.records.specs.declared.fault.Unfit.{Unfit}
 use Rattle.cases.specs.Setting.{Case, does, looks, _⇒_, play, answer, holds, slip}
-use Rattle.cases.specs.Sheets.{text, printed}
+use Rattle.script.specs.Printed.{printed}
+use Rattle.cases.specs.Sheets.{text}
 
 -- what a store answers: 0, or its refusal's number
 abbrev store-number : {X : Type 0} → Result X Fault → ℕ

@@ -13,7 +13,8 @@ use Rattle.rules.specs.Replies.{Open, Read, Write, Begin, Commit, GiveUp, Close
 use Rattle.rules.specs.Runs.{Rows, ran, run-answer}
 use Rattle.records.specs.declared.fault.SiteFault.{SiteFault}
 use Rattle.rules.specs.declared.step.Step.{Step}
-use Rattle.cases.specs.Setting.{Case, site, does, step, knows, lives, _⇒_, play-on, play, answer, slip}
+use Rattle.script.specs.Printed.{site}
+use Rattle.cases.specs.Setting.{Case, does, step, knows, lives, _⇒_, play-on, play, answer, slip}
 
 -- steps 5 and 6 ask 7, 8 and 11 before the note is taken up, with place 0, and so is 16 without a note; step 6 does not ask 11
 abbrev without-a-note : Case
@@ -65,6 +66,18 @@ nobody-there = play (
     does (GiveUp (slip 9 3)) ⇒ answer 16 3 0 0
     ∷ does (Commit (slip 9 3)) ⇒ answer 8 3 0 0
     ∷ does (Commit (slip 2 3)) ⇒ answer 11 3 0 0
+    ∷ [])
+
+-- clients are 1 to the count; a close leaves the client's cells unchecked
+abbrev last-client : Case
+last-client = play (
+    does (Open 0) ⇒ answer 8 0 0 0
+    ∷ does (Open 4) ⇒ answer 8 0 0 0
+    ∷ does (Open 3) ⇒ answer 0 0 1 0
+    ∷ does (Read 3 4) ⇒ answer 0 4 0 3
+    ∷ knows 3 4 ⇒ (1 ∷ 1 ∷ 0 ∷ [])
+    ∷ does (Close 3) ⇒ answer 0 0 0 0
+    ∷ knows 3 4 ⇒ (1 ∷ 0 ∷ 0 ∷ [])
     ∷ [])
 
 -- a client that does not hold may be restarted, and its note goes
@@ -138,6 +151,19 @@ stopped-sweep = play (
     ∷ does (Invalidate 1) ⇒ answer 0 0 0 0
     ∷ [])
 
+-- a sweep reads the marks of kept cells alone, and of no cell that is dirty or in the journal
+abbrev what-is-swept : Case
+what-is-swept = play (
+    does (Open 1) ⇒ answer 0 0 1 0
+    ∷ does (Read 1 0) ⇒ answer 0 0 0 3
+    ∷ does (Write 1 2 5) ⇒ answer 0 2 0 0
+    ∷ does (Write 1 3 5) ⇒ answer 0 3 0 0
+    ∷ does (Begin 1 3) ⇒ answer 0 3 1 0
+    ∷ lives 1 ⇒ (999 ∷ 991 ∷ 995 ∷ [])
+    ∷ does (Invalidate 1) ⇒ answer 0 0 0 0
+    ∷ lives 1 ⇒ (999 ∷ 990 ∷ 995 ∷ [])
+    ∷ [])
+
 -- 17 names the first cell dirty or in the journal
 abbrev first-unsent : Case
 first-unsent = play (
@@ -187,7 +213,7 @@ unequal-rows = record { shown = rows-shown (three-steps 2); said = (23 ∷ []) �
 
 abbrev pub readings : List Case
 readings =
-    without-a-note ∷ noted-again ∷ unfit ∷ nobody-there ∷ idle-restart ∷ restart-in-session ∷ refused-fetch ∷ stopped-sweep ∷ first-unsent ∷ journal-out-of-reach ∷ equal-rows ∷ unequal-rows ∷ []
+    without-a-note ∷ noted-again ∷ unfit ∷ nobody-there ∷ last-client ∷ idle-restart ∷ restart-in-session ∷ refused-fetch ∷ stopped-sweep ∷ what-is-swept ∷ first-unsent ∷ journal-out-of-reach ∷ equal-rows ∷ unequal-rows ∷ []
 
 -- in each the definitions show what is said
 abbrev pub ReadSo : Type 0

@@ -3,33 +3,21 @@ use Prim.Native.Nat.{ℕ, suc}
 use mathlib.Core.Bool.{Bool, true, false, cond}
 use mathlib.Core.List.{List, [], _∷_, map}
 use lib.Dec.{eqb}
-use lib.ListN.{getD, replicate}
+use lib.ListN.{getD}
 use Rattle.std.specs.Options.{valueOr}
 use Rattle.std.specs.declared.option.Option.{Option}
 use Rattle.std.specs.declared.option.Option.the-variants.{Some, None}
-use Rattle.store.specs.Stores.{Stored, stored, least}
 use Rattle.store.specs.declared.life.Life.{Life}
 use Rattle.store.specs.declared.life.Life.the-variants.{Endless, Left}
 use Rattle.records.specs.Clients.{asked}
 use Rattle.records.specs.Records.{record-of}
 use Rattle.rules.specs.Site.{State}
-use Rattle.rules.specs.Making.{Start, made}
 use Rattle.rules.specs.Replies.{Call, Reply, called, accepted}
 use Rattle.rules.specs.Runs.{Running, ran}
 use Rattle.rules.specs.History.{shown}
+use Rattle.script.specs.Printed.{site}
 use Rattle.records.specs.declared.records.CellRecord.{CellRecord}
 use Rattle.records.specs.declared.records.Flush.{Flush}
-
--- a row of n zeros under a fuse of 1,000
-abbrev zeros : ℕ → Stored ℕ
-zeros n = stored (replicate n 0) (least 1000 Endless)
-
--- 8 number cells, 3 clients, all cells and marks 0, starting session 0
-abbrev pub start : Start ℕ
-start = record { disk = zeros 8; marks = zeros 8; locals = zeros 9 ∷ zeros 9 ∷ zeros 9 ∷ []; session = 0 }
-
-unfoldable pub site : State ℕ
-site = made start
 
 -- what is shown, and what is said to be shown: lines of numbers
 pub record Case : Type 0 where

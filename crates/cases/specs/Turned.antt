@@ -20,7 +20,8 @@ use Rattle.rules.specs.History.{Act, single, after, log}
 use Rattle.rules.specs.Claim.{Upheld, Upholds}
 use Rattle.records.specs.declared.records.CellRecord.{CellRecord}
 use Rattle.records.specs.declared.fault.SiteFault.{SiteFault}
-use Rattle.cases.specs.Setting.{start, slip}
+use Rattle.script.specs.Printed.{start}
+use Rattle.cases.specs.Setting.{slip}
 
 -- the three calls in which a rule is turned
 pub record Parts (V : Type 0) : Type 0 where
@@ -49,6 +50,7 @@ built p blank s (CommitStep k) =
 built p blank s (GiveUpStep k) = called blank s (GiveUpStep k)
 built p blank s NoStep = called blank s NoStep
 
+-- the true rules
 abbrev pub true-parts : {V : Type 0} → Parts V
 true-parts = record { commit = commit-call; close = close-call; invalidate = invalidate-call }
 
@@ -95,12 +97,23 @@ dropping-invalidate s k = dropping-sweep s k (holding (s .table) k)
 abbrev pub dirty-dropped : {V : Type 0} → Parts V
 dirty-dropped = record { commit = commit-call; close = close-call; invalidate = dropping-invalidate }
 
+-- a list of single calls
 abbrev singly : List (Call ℕ) → List (Act ℕ)
 singly qs = map single qs
 
 -- client 1 caches cell 3; client 2 writes it and commits while the marks are down
 abbrev pub marks-down : List (Act ℕ)
 marks-down = singly (Open 1 ∷ Read 1 3 ∷ Close 1 ∷ Open 2 ∷ Write 2 3 5 ∷ Begin 2 3 ∷ RestartServer 9 0 ∷ Commit (slip 2 3) ∷ [])
+
+-- client 2 lost for good after that, so that nobody holds: what client 1's read of cell 3 then gives, and what the disk has
+abbrev lost : Parts ℕ → State ℕ
+lost p = let s = after (built p 0) (made start) marks-down in with-table s (with-holder (s .table) (s .table .session) None)
+
+abbrev read-by-1 : Parts ℕ → State ℕ → List ℕ
+read-by-1 p s = valueOr (built p 0 s (Read 1 3) .reply .got) 9 ∷ getD (s .disk .cells) 3 9 ∷ []
+
+abbrev pub after-loss : Parts ℕ → List ℕ
+after-loss p = read-by-1 p (after (built p 0) (lost p) (singly (RestartServer 9 9 ∷ Open 1 ∷ [])))
 
 -- client 1 caches cell 4, client 2 writes it, and client 1 opens and closes once before it reads the cell again
 abbrev pub stale-copy : List (Act ℕ)
@@ -111,17 +124,7 @@ stale-copy =
 abbrev pub swept-write : List (Act ℕ)
 swept-write = singly (Open 1 ∷ Write 1 3 5 ∷ Invalidate 1 ∷ Read 1 3 ∷ [])
 
--- client 2 lost for good after that list, so that nobody holds: what client 1's read of cell 3 gives then, and what the disk has
-abbrev lost : Parts ℕ → State ℕ
-lost p = let s = after (built p 0) (made start) marks-down in with-table s (with-holder (s .table) (s .table .session) None)
-
-abbrev read-by-1 : Parts ℕ → State ℕ → List ℕ
-read-by-1 p s = valueOr (built p 0 s (Read 1 3) .reply .got) 9 ∷ getD (s .disk .cells) 3 9 ∷ []
-
-abbrev pub after-loss : Parts ℕ → List ℕ
-after-loss p = read-by-1 p (after (built p 0) (lost p) (singly (RestartServer 9 9 ∷ Open 1 ∷ [])))
-
--- after that list the claim does not hold
+-- after these acts the claim does not hold
 abbrev pub Breaks : Parts ℕ → List (Act ℕ) → Type 0
 Breaks p acts = Upheld 0 start (log (built p 0) (made start) acts) (after (built p 0) (made start) acts) → ⊥
 

@@ -18,7 +18,7 @@ pub fn readings_stand() -> usize
     ensures count { λ r. ⌜ r ≡ length readings ⌝ }
     ensures stand { λ _. ⌜ ReadSo ⌝ }
 {
-    12
+    14
 }
 
 // What is proved of the rules fails of each of three rules turned, after a list of calls that is given.

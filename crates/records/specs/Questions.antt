@@ -21,6 +21,7 @@ and-then (Err e) f = Err e
 abbrev pub unless : {X : Type 0} → Bool → SiteFault → Result X SiteFault → Result X SiteFault
 unless b e r = cond b r (Err e)
 
+-- a question and nothing more
 abbrev pub asks : Bool → SiteFault → Result (Unit {0}) SiteFault
 asks b e = unless b e (Ok tt)
 
@@ -76,6 +77,7 @@ unfoldable pub first-from : (ℕ → Bool) → ℕ → ℕ → Option ℕ
 first-from p zero i = None
 first-from p (suc n) i = cond (p i) (Some i) (first-from p n (suc i))
 
+-- nothing was found unsent, or the first cell that is
 abbrev pub all-sent : Option ℕ → Result (Unit {0}) SiteFault
 all-sent None = Ok tt
 all-sent (Some i) = Err (fault.Unsent i)

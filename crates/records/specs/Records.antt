@@ -39,11 +39,12 @@ abbrev pub names : Option ℕ → ℕ → Bool
 names None k = false
 names (Some i) k = eqb i k
 
+-- is there nothing?
 abbrev pub is-none : {X : Type 0} → Option X → Bool
 is-none None = true
 is-none (Some x) = false
 
--- what client k's record says of cell i, of the journal, the note and the turn
+-- what client k's record says: of cell i; which cell is in the journal; the note; and the turn, which counts the flushes begun
 unfoldable pub cell-of : Records → ℕ → ℕ → Option CellRecord
 cell-of t k i = joined (asked (λ c. nth (c .cells) i) (t .clients) k)
 
@@ -60,12 +61,15 @@ turn-of t k = valueOr (asked (λ c. c .turn) (t .clients) k) 0
 abbrev pub flush-is : ClientRecord → ℕ → ℕ → Bool
 flush-is c i turn = names (c .journal) i && eqb (c .turn) turn
 
+-- the same of client k's record
 unfoldable pub flushing : Records → ℕ → ℕ → ℕ → Bool
 flushing t k i turn = valueOr (asked (λ c. flush-is c i turn) (t .clients) k) false
 
+-- a cell without a record counts as new
 abbrev pub record-of : Records → ℕ → ℕ → CellRecord
 record-of t k i = valueOr (cell-of t k i) new-cell
 
+-- is cell i in client k's journal?
 abbrev pub in-journal : Records → ℕ → ℕ → Bool
 in-journal t k i = names (journal-of t k) i
 

@@ -10,12 +10,13 @@ use Rattle.std.specs.declared.option.Option.{Option}
 use Rattle.std.specs.declared.option.Option.the-variants.{Some, None}
 use Rattle.std.proofs.shelf.Lists.{length-replicate}
 use Rattle.std.proofs.shelf.Tests.{leb-true, eqb-true, and-parts}
+use Rattle.store.specs.Lengths.{all-long}
 use Rattle.store.specs.Stores.{Stored}
 use Rattle.records.specs.Cells.{new-cell}
 use Rattle.records.specs.Clients.{asked}
 use Rattle.records.specs.Records.{new-client, new-clients}
 use Rattle.rules.specs.Site.{State}
-use Rattle.rules.specs.Making.{Looked, looked, look-from, all-long, within, surveyed, Start, made}
+use Rattle.rules.specs.Making.{Looked, looked, look-from, within, surveyed, Start, made}
 use Rattle.rules.specs.Replies.{Call, called}
 use Rattle.rules.specs.History.{after}
 use Rattle.rules.specs.Claim.{Fit, Shaped, KeepsShape}

@@ -10,3 +10,4 @@ pub mod Refusals
 pub mod Sizes
 pub mod Fits
 pub mod Carried
+pub mod Alike

@@ -19,7 +19,7 @@ use Rattle.store.specs.Stores.{stored}
 use Rattle.rules.specs.Site.{State, Outcome, with-marks, with-disk}
 use Rattle.rules.specs.Calls.{read-call, read-local, read-confirmed, read-fetched, read-asked}
 use Rattle.rules.specs.Replies.{Call, Reply, Out, open-reply, read-reply, noted-reply, plain-reply, stopped-reply, called}
-use Rattle.rules.specs.Runs.{Rows, call-of, calls-of, equally-long, Running, running, put-got, filled, run-from, run-calls}
+use Rattle.rules.specs.Runs.{Rows, call-of, calls-of, equally-long, Running, running, put-got, filled, run-from, run-calls, ran}
 use Rattle.rules.specs.History.{Entry, Act, single, run, logged, shown, row-log, acted, act-log, after, log}
 use Rattle.rules.specs.declared.step.Step.{Step}
 use Rattle.rules.specs.declared.answer.Answer.{Answer}
@@ -128,7 +128,7 @@ module _ {V : Type 0} (blank : V) where
 
   -- an accepted read has a source
   read-shows : (s : State V) (k i : ℕ) → Shows (read-reply i (read-call s k i .answer))
-  unfolding read-local read-confirmed read-fetched read-asked
+  unfolding read-local read-confirmed read-fetched
   read-shows s k i g =
       let P : Outcome V (V × ℕ) → Type 0 = λ o. shown (read-reply i (o .answer) .answer) (valueOr (read-reply i (o .answer) .got) g) ≡ read-reply i (o .answer) in
       followed P s (admitted (s .table) k i) _ (λ e. refl) λ r _.
@@ -192,6 +192,7 @@ module _ {V : Type 0} (blank : V) where
       (λ _. (refl, refl))
 
   pub act-does : (s : State V) (x : Act V) → (acted (called blank) s x ≡ calls-after (called blank) s (calls-in x)) × (act-log (called blank) s x ≡ calls-log (called blank) s (calls-in x))
+  unfolding ran
   act-does s (single q) = (refl, refl)
   act-does s (run r) = run-does s r
 

@@ -150,7 +150,7 @@ module _ {V : Type 0} where
   admitted-exact s k i h = subst (λ (r : Result CellRecord SiteFault). Exact (s .table) k (Some i) (num r)) (and-then-ok (admitted (s .table) k i)) (celled s k i (λ r. Ok r) h (λ r. zero-clear))
 
   read-ends : (s : State V) (k i : ℕ) → Sound s → Ends s (of-cell k i) (replied (read-reply i) (read-call s k i))
-  unfolding read-local read-confirmed read-fetched read-asked
+  unfolding read-local read-confirmed read-fetched
   read-ends s k i h =
       exact-ends (read-reply i) (read-num V i) s k (Some i) (read-call s k i)
       (whole s k (Some i) (admitted (s .table) k i) _ h (admitted-exact s k i h) λ r _ th.

@@ -1,7 +1,7 @@
 -- No call changes how many cells and clients a site has.
 use Prim.Native.Nat.{ℕ, zero, suc, _+_}
 use mathlib.Core.Path.{_≡_, refl, _∙_}
-use mathlib.Core.Bool.{Bool, false, cond}
+use mathlib.Core.Bool.{Bool, cond}
 use mathlib.Core.List.{List, [], _∷_}
 use Rattle.std.specs.declared.option.Option.{Option}
 use Rattle.std.specs.declared.option.Option.the-variants.{Some, None}
@@ -11,7 +11,7 @@ use Rattle.records.specs.Cells.{settled, fresh, sweeps}
 use Rattle.records.specs.Records.{cell-of, in-journal}
 use Rattle.records.specs.Questions.{fit, present, holding, admitted, opening, beginning, committing, giving-up, closing, taking-to-commit, taking-to-give-up}
 use Rattle.rules.specs.Site.{State, Outcome, outcome, next, _then_, disk-read, disk-write, mark-read, mark-write, local-read, local-write}
-use Rattle.rules.specs.Calls.{read-local, read-confirmed, read-fetched, read-asked, read-call, begin-call, commit-call, give-up-call, sweep-record, sweep-cell, sweep-more, sweep-from, sweep-admitted, Sweeping, with-note-of, returned, commit-taken}
+use Rattle.rules.specs.Calls.{read-local, read-confirmed, read-fetched, read-asked, read-call, begin-call, commit-call, give-up-call, sweep-record, sweep-cell, sweep-more, sweep-from, sweep-admitted, with-note-of, returned, commit-taken}
 use Rattle.rules.specs.Replies.{Call, Open, Read, Write, Begin, Commit, GiveUp, Close, Invalidate, RestartClient, RestartServer, BeginStep, CommitStep, GiveUpStep, NoStep, called}
 use Rattle.records.specs.declared.records.CellRecord.{CellRecord}
 use Rattle.records.specs.declared.records.Flush.{Flush}
@@ -41,7 +41,7 @@ module _ {V : Type 0} where
   same s = (refl, refl)
 
   read-kept : (s : State V) (k i : ℕ) → Keeps s (read-call s k i)
-  unfolding read-local read-confirmed read-fetched read-asked
+  unfolding read-local read-confirmed read-fetched
   read-kept s k i =
       kept-then s (outcome s (admitted (s .table) k i)) _ (same s) λ r.
       chosen (Keeps s) (settled r (in-journal (s .table) k i)) _ _

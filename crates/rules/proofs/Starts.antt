@@ -9,11 +9,12 @@ use lib.ListN.{length, getD, replicate}
 use Rattle.std.specs.declared.option.Option.{Option}
 use Rattle.std.specs.declared.option.Option.the-variants.{Some, None}
 use Rattle.std.proofs.shelf.Tests.{leb-true}
+use Rattle.store.specs.Lengths.{all-long}
 use Rattle.store.specs.Stores.{Stored, stored}
 use Rattle.records.specs.Clients.{asked}
 use Rattle.records.specs.Cells.{new-cell}
 use Rattle.records.specs.Records.{names, new-client, new-clients}
-use Rattle.rules.specs.Making.{Looked, looked, look-from, look-more, all-long, surveyed, new-site}
+use Rattle.rules.specs.Making.{Looked, looked, look-from, look-more, surveyed, new-site}
 use Rattle.rules.specs.Book.{Book, sent}
 use Rattle.records.specs.declared.records.ClientRecord.{ClientRecord}
 use Rattle.records.specs.declared.fault.Unfit.{Unfit}

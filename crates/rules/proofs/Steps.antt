@@ -347,7 +347,7 @@ module _ {V : Type 0} (blank : V) where
   unsettled x j e = let z = or-parts _ _ e in (z .0, or-parts _ _ (z .1) .0)
 
   pub read-fine : (s : State V) (b : Book V) (c k : ℕ) → Kept s b → Fine (s .table .size) b (reads k) (replied (read-reply k) (read-call s c k))
-  unfolding read-local read-confirmed read-fetched read-asked
+  unfolding read-local read-confirmed read-fetched
   read-fine s b c k i =
       let m : ℕ = s .table .size in
       let P : Outcome V (V × ℕ) → Type 0 = λ o. Fine m b (reads k) (replied (read-reply k) o) in

@@ -139,6 +139,7 @@ module _ {V : Type 0} (blank : V) where
   -- a run that does what the rules say
   pub continues-run : (entry : State V) (r : Rows V) (exit : State V) (answers : List Answer) (got : List V) → running exit answers got ≡ ran (called blank) entry r
       → ContinuesRun blank entry r exit answers got
+  unfolding ran
   continues-run entry r exit answers got e = record {
     whatever = λ x before fit led.
         let d = run-does blank entry r in
@@ -166,7 +167,7 @@ same-stores {V} (x ∷ xs) (y ∷ ys) e f =
     let more : xs ≡ ys = same-stores xs ys (cc) (cc) in
     λ i. stored (c i) (l i) ∷ more i
 
-same-start : {V : Type 0} (x y : Start V) → SameStart x y → x ≡ y
+pub same-start : {V : Type 0} (x y : Start V) → SameStart x y → x ≡ y
 same-start x y e =
     let ls = same-stores (x .locals) (y .locals) (e .local-cells) (e .local-lives) in
     λ i. record { disk = stored (e .disk-cells i) (e .disk-lives i); marks = stored (e .marks-cells i) (e .marks-lives i); locals = ls i; session = e .sessions i }

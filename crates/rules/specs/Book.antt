@@ -23,6 +23,7 @@ Book V = ℕ → Line V
 abbrev pub put : {X : Type 0} → (ℕ → X) → ℕ → X → ℕ → X
 put f i a j = cond (eqb j i) a (f j)
 
+-- not on the disk yet
 abbrev pub unsent : Stage → Bool
 unsent sent = false
 unsent waiting = true
@@ -60,9 +61,11 @@ module _ {V : Type 0} where
   deed (GiveUpStep k) a = other
   deed NoStep a = other
 
+  -- the same write at another stage
   abbrev pub staged : Line V → Stage → Line V
   staged n g = record { last = n .last; stage = g }
 
+  -- the book after an accepted call
   abbrev pub entered : Book V → Deed V → Book V
   entered b (reads i) = b
   entered b (writes i v) = put b i (record { last = v; stage = waiting })
@@ -74,5 +77,6 @@ module _ {V : Type 0} where
   abbrev pub fed : Book V → Deed V → Answer → Book V
   fed b d a = cond (eqb (a .number) 0) (entered b d) b
 
+  -- the book, fed a call with its answer
   abbrev pub feed : Book V → Call V → Answer → Book V
   feed b q a = fed b (deed q a) a

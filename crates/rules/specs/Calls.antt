@@ -39,7 +39,7 @@ read-fetched s k i r =
     (local-write s₁ k i v then λ s₂ _. got (with-table s₂ (with-cell (s₂ .table) k i r)) v 3)
 
 -- the mark is read at the server; a kept cell with a mark not below it becomes checked, any other is fetched and kept with it
-unfoldable pub read-asked : {V : Type 0} → State V → ℕ → ℕ → CellRecord → Outcome V (V × ℕ)
+abbrev pub read-asked : {V : Type 0} → State V → ℕ → ℕ → CellRecord → Outcome V (V × ℕ)
 read-asked s k i r =
     mark-read s i then λ s₁ mark.
     cond (fresh (r .kept) mark) (read-confirmed s₁ k i (marked r (r .kept))) (read-fetched s₁ k i (marked r (Some mark)))
@@ -57,7 +57,7 @@ write-call s k i v =
     (local-write s₁ k i v then λ s₂ _.
     outcome (with-table s₂ (with-cell (s₂ .table) k i (written-cell (s₂ .table .session)))) (Ok tt))
 
--- 4: the local cell is read and written to the journal; the slip names the client, the cell and the raised turn
+-- 4: the local cell is read and written to the journal; the slip, which commit or give up will take, names the client, the cell and the raised turn
 abbrev pub begin-call : {V : Type 0} → State V → ℕ → ℕ → Outcome V Flush
 begin-call s k i =
     outcome s (beginning (s .table) k i) then λ s₁ x.
@@ -92,6 +92,7 @@ sweep-known s k i r =
     mark-read s i then λ s₁ mark.
     outcome (with-table s₁ (with-cell (s₁ .table) k i (swept-cell r mark))) (Ok (not (fresh (r .kept) mark)))
 
+-- a cell that is not swept stays as it is
 abbrev pub sweep-record : {V : Type 0} → State V → ℕ → ℕ → Option CellRecord → Outcome V Bool
 sweep-record s k i None = outcome s (Ok false)
 sweep-record s k i (Some r) = cond (sweeps r (in-journal (s .table) k i)) (sweep-known s k i r) (outcome s (Ok false))
@@ -121,11 +122,12 @@ unfoldable pub sweep-from : {V : Type 0} → ℕ → ℕ → State V → ℕ →
 sweep-from k zero s i d = swept s None 0 d
 sweep-from k (suc n) s i d = sweep-more (sweep-from k n) (sweep-cell s k i .state) (sweep-cell s k i .answer) i d
 
+-- where the questions are a yes, all cells from 0
 abbrev pub sweep-admitted : {V : Type 0} → State V → ℕ → Result (Unit {0}) SiteFault → Sweeping V
 sweep-admitted s k (Ok _) = sweep-from k (s .table .size) s 0 0
 sweep-admitted s k (Err e) = swept s (Some e) 0 0
 
--- 8: all cells are swept, from 0
+-- 8: 7, 8 and 11 are asked, and the cells swept
 abbrev pub invalidate-call : {V : Type 0} → State V → ℕ → Sweeping V
 invalidate-call s k = sweep-admitted s k (holding (s .table) k)
 
@@ -141,24 +143,29 @@ restart-server-call s n m =
     outcome s (fit (s .table)) then λ s₁ _.
     outcome (with-marks (with-disk s₁ (after-renew n (s₁ .disk))) (after-renew m (s₁ .marks))) (Ok tt)
 
--- the steps 4, 5 and 6 of a run: the slip is noted, taken up, and noted again where it comes back
+-- a run keeps its slips as notes in the clients' records: client k's note becomes n
 abbrev pub with-note-of : {V : Type 0} → State V → ℕ → Option Flush → State V
 with-note-of s k n = with-table s (noted (s .table) k n)
 
+-- step 4 of a run: begin, and the slip is noted
 abbrev pub begin-step : {V : Type 0} → State V → ℕ → ℕ → Outcome V Flush
 begin-step s k i = begin-call s k i then λ s₁ n. outcome (with-note-of s₁ k (Some n)) (Ok n)
 
+-- a commit's slip is noted again where it comes back
 abbrev pub returned : {V : Type 0} → ℕ → Flush → State V → Result (Unit {0}) SiteFault → Outcome V (Unit {0})
 returned k n s (Ok x) = outcome s (Ok x)
 returned k n s (Err e) = outcome (with-note-of s k (Some n)) (Err e)
 
+-- the commit of a slip that was taken up
 unfoldable pub commit-taken : {V : Type 0} → V → State V → ℕ → Flush → Outcome V (Unit {0})
 commit-taken blank s k n =
     let o = commit-call blank s (n .client) (n .cell) (n .turn) in
     returned k n (o .state) (o .answer)
 
+-- step 5: the note is taken up, which empties it, and the slip committed
 abbrev pub commit-step : {V : Type 0} → V → State V → ℕ → Outcome V (Unit {0})
 commit-step blank s k = outcome s (taking-to-commit (s .table) k) then λ s₁ n. commit-taken blank (with-note-of s₁ k None) k n
 
+-- step 6: the note is taken up and the slip given up
 abbrev pub give-up-step : {V : Type 0} → State V → ℕ → Outcome V (Unit {0})
 give-up-step s k = outcome s (taking-to-give-up (s .table) k) then λ s₁ n. give-up-call (with-note-of s₁ k None) (n .client) (n .cell) (n .turn)

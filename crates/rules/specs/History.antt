@@ -39,8 +39,9 @@ module _ {V : Type 0} where
   book-of b [] = b
   book-of b (e ∷ es) = book-of (feed b (e .call) (e .reply .answer)) es
 
--- the list of acts done to a site, one after the other
+-- acts done to a site, one after the other
 module _ {V : Type 0} (perform : State V → Call V → Out V) where
+  -- the site after one act, and the log of that act
   abbrev pub acted : State V → Act V → State V
   acted s (single q) = perform s q .state
   acted s (run r) = ran perform s r .state

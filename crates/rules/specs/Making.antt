@@ -1,6 +1,6 @@
 -- The making of a site, with the questions 1 to 6.
-use mathlib.Core.Bool.{Bool, true, cond, _&&_}
-use mathlib.Core.List.{List, [], _∷_}
+use mathlib.Core.Bool.{cond, _&&_}
+use mathlib.Core.List.{List}
 use Prim.Native.Nat.{ℕ, zero, suc, _+_}
 use lib.Dec.{eqb, leb, ltb}
 use lib.ListN.{length}
@@ -8,6 +8,7 @@ use Rattle.std.specs.declared.option.Option.{Option}
 use Rattle.std.specs.declared.option.Option.the-variants.{Some, None}
 use Rattle.std.specs.declared.result.Result.{Result}
 use Rattle.std.specs.declared.result.Result.the-variants.{Ok, Err}
+use Rattle.store.specs.Lengths.{all-long}
 use Rattle.store.specs.Stores.{Stored, read-answer, after-read}
 use Rattle.store.specs.declared.life.Fault.{Fault}
 use Rattle.records.specs.Records.{new-records}
@@ -33,11 +34,6 @@ unfoldable pub look-from : ℕ → ℕ → ℕ → Stored ℕ → Looked
 look-from zero i session ms = looked None ms
 look-from (suc n) i session ms = look-more (look-from n (i + 1) session) session (after-read ms i) (read-answer ms i)
 
--- has each of the stores m cells?
-abbrev pub all-long : {V : Type 0} → ℕ → List (Stored V) → Bool
-all-long m [] = true
-all-long m (l ∷ ls) = eqb (length (l .cells)) m && all-long m ls
-
 -- 1, has the disk 1 to 1,024 cells? 2, have the marks as many? 3, are there 1 to 8 clients? 4, has each local store exactly one cell more?
 -- And then 5 and 6, mark by mark
 unfoldable pub surveyed : {V : Type 0} → Stored V → Stored ℕ → List (Stored V) → ℕ → Looked
@@ -55,6 +51,7 @@ abbrev pub within : Option Unfit → ℕ → ℕ
 within None n = n
 within (Some u) n = 0
 
+-- the site of what was found
 abbrev pub new-site : {V : Type 0} → Stored V → List (Stored V) → ℕ → Looked → State V
 new-site d ls session x =
     record { disk = d; marks = x .marks; locals = ls; table = new-records (x .first) (within (x .first) (length (d .cells))) (within (x .first) (length ls)) session }
@@ -70,5 +67,6 @@ pub record Start (V : Type 0) : Type 0 where
 abbrev pub making : {V : Type 0} → Stored V → Stored ℕ → List (Stored V) → ℕ → State V
 making d ms ls session = new-site d ls session (surveyed d ms ls session)
 
+-- the same of a start
 abbrev pub made : {V : Type 0} → Start V → State V
 made x = making (x .disk) (x .marks) (x .locals) (x .session)

@@ -64,6 +64,7 @@ abbrev pub open-reply : {V : Type 0} → Result ℕ SiteFault → Reply V
 open-reply (Ok n) = plain (accepted 0 n 0)
 open-reply (Err e) = plain (refused 0 0 e)
 
+-- the cell got, with its source
 abbrev pub read-reply : {V : Type 0} → ℕ → Result (V × ℕ) SiteFault → Reply V
 read-reply i (Ok x) = record { answer = accepted i 0 (x .1); got = Some (x .0); slip = None }
 read-reply i (Err e) = plain (refused i 0 e)
@@ -83,6 +84,7 @@ abbrev pub plain-reply : {V : Type 0} → ℕ → Result (Unit {0}) SiteFault �
 plain-reply i (Ok x) = plain (accepted i 0 0)
 plain-reply i (Err e) = plain (refused i 0 e)
 
+-- a sweep that ended, or stopped at the cell `place`
 abbrev pub stopped-reply : {V : Type 0} → ℕ → ℕ → Option SiteFault → Reply V
 stopped-reply place value None = plain (accepted place value 0)
 stopped-reply place value (Some e) = plain (refused place value e)
@@ -95,6 +97,7 @@ swept-reply a = stopped-reply (a .place) (a .value) (a .fault)
 abbrev pub replied : {V X : Type 0} → (Result X SiteFault → Reply V) → Outcome V X → Out V
 replied reply o = out (o .state) (reply (o .answer))
 
+-- the same of a sweep
 abbrev pub swept-out : {V : Type 0} → Sweeping V → Out V
 swept-out o = out (o .state) (swept-reply (o .answer))
 

@@ -29,6 +29,7 @@ call-of p v =
     (cond (eqb (p .call) 9) (RestartClient (p .client) (p .first))
     (cond (eqb (p .call) 10) (RestartServer (p .first) (p .second)) NoStep)))))))))
 
+-- the calls of the steps with the cells given, in order
 abbrev pub calls-of : {V : Type 0} → List Step → List V → List (Call V)
 calls-of [] vs = []
 calls-of (p ∷ ps) [] = []
@@ -45,6 +46,7 @@ pub record Rows (V : Type 0) : Type 0 where
 abbrev pub equally-long : {V : Type 0} → Rows V → Bool
 equally-long r = eqb (length (r .steps)) (length (r .given)) && (eqb (length (r .steps)) (length (r .answers)) && eqb (length (r .steps)) (length (r .got)))
 
+-- what a run answers: yes, or 23
 abbrev pub run-answer : {V : Type 0} → Rows V → Result (Unit {0}) SiteFault
 run-answer r = asks (equally-long r) RowsUnequal
 
@@ -76,5 +78,5 @@ abbrev pub run-calls : {V : Type 0} → Rows V → List (Call V)
 run-calls r = cond (equally-long r) (calls-of (r .steps) (r .given)) []
 
 -- what a run leaves
-abbrev pub ran : {V : Type 0} → (State V → Call V → Out V) → State V → Rows V → Running V
+unfoldable pub ran : {V : Type 0} → (State V → Call V → Out V) → State V → Rows V → Running V
 ran perform s r = run-from perform (run-calls r) 0 (running s (r .answers) (r .got))

@@ -1,0 +1,216 @@
+// A day of one site over sectors: two clients, a power cut between a mark and its disk cell, one after the disk
+// cell was written, restarts, a hand-over, and a stale copy that is fetched again. Every step is printed.
+use bank::End;
+use bank::EndBank;
+use bank::PairBank;
+use records::fault::SiteFault;
+use site::Calls;
+use site::Returned;
+use site::Site;
+use site::SiteCalls;
+use site::Slip;
+use std::io;
+use std::marker::PhantomData;
+use store::Fuse;
+use store::FuseStore;
+use store::Image;
+use store::ImageStore;
+use store::NumberCell;
+use store::Row;
+use store::RowStore;
+use store::Sector;
+use store::SectorCell;
+
+// Says what was done and how it ended. (What cannot be printed is lost; the day goes on.)
+fn say(rt: &impl Print, client: u32, what: &str, cell: u32, number: u8) {
+    let _ = if number == 0 {
+        println!(rt, "  client {client} {what} {cell}: done")
+    } else {
+        println!(rt, "  client {client} {what} {cell}: refused by {number}")
+    };
+}
+
+fn title(rt: &impl Print, what: &str) {
+    let _ = println!(rt, "{what}");
+}
+
+fn ended<T: Copy>(answer: Result<T, SiteFault>) -> u8 {
+    match answer {
+        Ok(_) => 0,
+        Err(fault) => fault.number(),
+    }
+}
+
+fn open(rt: &impl Print, site: &mut impl Calls<Cell = Sector>, client: u32) {
+    match site.open(client) {
+        Ok(session) => say(rt, client, "opens session", session, 0),
+        Err(fault) => say(rt, client, "opens a session", 0, fault.number()),
+    }
+}
+
+fn close(rt: &impl Print, site: &mut impl Calls<Cell = Sector>, client: u32) {
+    match site.close(client) {
+        Err(SiteFault::Unsent(cell)) => say(rt, client, "closes with unsent sector", cell, 17),
+        answer => say(rt, client, "closes, with unsent sectors", 0, ended(answer)),
+    }
+}
+
+fn read(rt: &impl Print, site: &mut impl Calls<Cell = Sector>, client: u32, cell: u32) {
+    let mut sector = [0; 512];
+    match site.read(client, cell, &mut sector) {
+        Ok(source) => {
+            let byte = sector[0];
+            let _ = println!(
+                rt,
+                "  client {client} reads sector {cell}: bytes of {byte}, from source {source}"
+            );
+        }
+        Err(fault) => say(rt, client, "reads sector", cell, fault.number()),
+    }
+}
+
+fn write(rt: &impl Print, site: &mut impl Calls<Cell = Sector>, client: u32, cell: u32, byte: u8) {
+    let answer = site.write(client, cell, [byte; 512]);
+    say(rt, client, "writes to sector", cell, ended(answer));
+}
+
+fn restart_server(rt: &impl Print, site: &mut impl Calls<Cell = Sector>, disk: u32, marks: u32) {
+    let number = ended(site.restart_server(disk, marks));
+    let _ = println!(
+        rt,
+        "  the server restarts, with a life of {disk} for the disk and {marks} for the marks: {number}"
+    );
+}
+
+fn restart_client(rt: &impl Print, site: &mut impl Calls<Cell = Sector>, client: u32, life: u32) {
+    let answer = site.restart_client(client, life);
+    say(rt, client, "restarts with a life of", life, ended(answer));
+}
+
+// Commits a flush; a slip that comes back is tried again once the server is back, and else given up.
+fn commit(rt: &impl Print, site: &mut impl Calls<Cell = Sector>, slip: Slip) {
+    let flush = slip.flush();
+    match site.commit(slip) {
+        Ok(()) => say(rt, flush.client, "commits sector", flush.cell, 0),
+        Err(Returned { slip, fault }) => {
+            say(
+                rt,
+                flush.client,
+                "commits sector",
+                flush.cell,
+                fault.number(),
+            );
+            restart_server(rt, site, 9, 9);
+            retry(rt, site, slip);
+        }
+    }
+}
+
+fn retry(rt: &impl Print, site: &mut impl Calls<Cell = Sector>, slip: Slip) {
+    let flush = slip.flush();
+    match site.commit(slip) {
+        Ok(()) => say(rt, flush.client, "commits sector", flush.cell, 0),
+        Err(Returned { slip, fault }) => {
+            say(
+                rt,
+                flush.client,
+                "commits sector",
+                flush.cell,
+                fault.number(),
+            );
+            let answer = site.give_up(slip);
+            say(
+                rt,
+                flush.client,
+                "gives up the flush of sector",
+                flush.cell,
+                ended(answer),
+            );
+        }
+    }
+}
+
+// Begins a flush, lets the server lose power with these lives left, and commits.
+fn flush(
+    rt: &impl Print,
+    site: &mut impl Calls<Cell = Sector>,
+    client: u32,
+    cell: u32,
+    lives: Option<(u32, u32)>,
+) {
+    match site.begin(client, cell) {
+        Err(fault) => say(rt, client, "begins to flush sector", cell, fault.number()),
+        Ok(slip) => {
+            say(rt, client, "begins to flush sector", cell, 0);
+            if let Some((disk, marks)) = lives {
+                restart_server(rt, site, disk, marks);
+            }
+            commit(rt, site, slip);
+        }
+    }
+}
+
+fn morning(rt: &impl Print, site: &mut impl Calls<Cell = Sector>) {
+    title(
+        rt,
+        "Morning: client 1 works, and the disk loses power between a mark and its cell",
+    );
+    open(rt, site, 1);
+    read(rt, site, 1, 2);
+    write(rt, site, 1, 1, 5);
+    read(rt, site, 1, 1);
+    flush(rt, site, 1, 1, Some((0, 9)));
+    title(
+        rt,
+        "Client 1 loses power after the disk was written, and before its journal is empty",
+    );
+    restart_client(rt, site, 1, 4);
+    write(rt, site, 1, 3, 6);
+    flush(rt, site, 1, 3, None);
+    restart_client(rt, site, 1, 99);
+    read(rt, site, 1, 3);
+    close(rt, site, 1);
+    flush(rt, site, 1, 3, None);
+    close(rt, site, 1);
+}
+
+fn afternoon(rt: &impl Print, site: &mut impl Calls<Cell = Sector>) {
+    title(rt, "Afternoon: client 2 takes over");
+    open(rt, site, 2);
+    open(rt, site, 1);
+    read(rt, site, 2, 1);
+    read(rt, site, 2, 3);
+    write(rt, site, 2, 2, 77);
+    flush(rt, site, 2, 2, None);
+    close(rt, site, 2);
+    title(
+        rt,
+        "Evening: client 1 is back, and its copy of sector 2 is stale",
+    );
+    open(rt, site, 1);
+    read(rt, site, 1, 1);
+    read(rt, site, 1, 2);
+    read(rt, site, 1, 4);
+    close(rt, site, 1);
+}
+
+fn main(rt: LibcRuntime) -> io::Result<()> {
+    let mut disk = [1u8; 2048];
+    let mut marks = [0u32; 4];
+    let mut first = [0u8; 2560];
+    let mut second = [0u8; 2560];
+    let end = End { cell: PhantomData };
+    let bank = (
+        Fuse::new(Image::new(&mut first), 99),
+        (Fuse::new(Image::new(&mut second), 99), end),
+    );
+    let mut site = Site::make(
+        Fuse::new(Image::new(&mut disk), 99),
+        Fuse::new(Row::new(&mut marks), 99),
+        bank,
+        0,
+    );
+    morning(&rt, &mut site);
+    afternoon(&rt, &mut site);
+    Ok(())
+}

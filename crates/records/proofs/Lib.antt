@@ -1,0 +1,4 @@
+mod Told
+mod Tables
+mod InPlace
+mod Restarts

@@ -1,0 +1,7 @@
+use Rattle.rules.proofs.Carried.{close-carried}
+use Rattle.site.specs.Promises.{close-does}
+use Rattle.site.proofs.calls.SiteCalls.close.Needs as need
+
+pub returns : need.returns
+unfolding close-does
+returns g c = record { call = c .do-close .ensures; upheld = close-carried _ _ _ _ _ (c .do-close .ensures) }

@@ -1,0 +1,7 @@
+use Rattle.rules.proofs.Carried.{open-carried}
+use Rattle.site.specs.Promises.{open-does}
+use Rattle.site.proofs.calls.SiteCalls.open.Needs as need
+
+pub returns : need.returns
+unfolding open-does
+returns g c = record { call = c .do-open .ensures; upheld = open-carried _ _ _ _ _ (c .do-open .ensures) }

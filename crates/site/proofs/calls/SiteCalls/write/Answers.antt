@@ -1,0 +1,7 @@
+use Rattle.rules.proofs.Carried.{write-carried}
+use Rattle.site.specs.Promises.{write-does}
+use Rattle.site.proofs.calls.SiteCalls.write.Needs as need
+
+pub returns : need.returns
+unfolding write-does
+returns g c = record { call = c .do-write .ensures; upheld = write-carried _ _ _ _ _ _ _ (c .do-write .ensures) }

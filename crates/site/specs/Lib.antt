@@ -1,0 +1,4 @@
+pub mod Means
+pub mod Promises
+pub mod Slips
+pub mod Steps
