@@ -111,6 +111,9 @@ fit-says {V} d ms ls session =
     by true true false e p q r = let z : _≡_ {A = ℕ} 0 1 = cc in absurd (omega arith)
     by true true true e p q r = (leb-true _ _ (and-parts _ _ p .1), leb-true _ _ (and-parts _ _ q .1))
 
+pub fit-found : {V : Type 0} (d : Stored V) (ms ms₁ : Stored ℕ) (ls : List (Stored V)) (session : ℕ) → looked None ms₁ ≡ surveyed d ms ls session → (length (d .cells) ≤ 1024) × (length ls ≤ 8)
+fit-found d ms ms₁ ls session e = fit-says d ms ls session (sym (ap (λ (o : Looked). o .first) e))
+
 pub fit-count : (n k : ℕ) → n ≤ 8 → k ≡ min n 4294967295 → k ≡ n
 fit-count n k h e = omega (arith, e)
 

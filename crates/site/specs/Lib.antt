@@ -1,4 +1,5 @@
 pub mod Means
 pub mod Promises
+pub mod Reads
 pub mod Slips
 pub mod Steps

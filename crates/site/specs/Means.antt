@@ -14,3 +14,15 @@ site-state d m b s = record {
   locals = b .stores (s .bank);
   table = records (s .table);
 }
+
+-- what a site's stores stand on besides their cells and lives
+pub record Rests (D M B : Type 0) : Type 0 where
+  pub disk : D
+  pub marks : M
+  pub locals : B
+
+unfoldable pub rests : {D M B : Type 0} → D → M → B → Rests D M B
+rests d m b = record { disk = d; marks = m; locals = b }
+
+abbrev pub site-rests : {D M B V : Type 0} (d : StoreMeaning D V) (m : StoreMeaning M ℕ) (b : BankMeaning B V) → Site D M B V → Rests (d .Rest) (m .Rest) (b .Rest)
+site-rests d m b s = rests (d .rest (s .disk)) (m .rest (s .marks)) (b .rest (s .bank))

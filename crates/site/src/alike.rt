@@ -25,6 +25,8 @@ pub fn run_both<S: Calls, T: Calls<Cell = S::Cell>>(
     ensures answer2 { λ r. ⌜ r .1 ≡ run-answer (rows (now (steps .entry)) (now (given .entry)) (now (answers2 .entry)) (now (got2 .entry))) ⌝ }
     ensures call { λ _. ⌜ running (S·Calls .state (now (one .exit))) (now (answers .exit)) (now (got .exit)) ≡ run-does (Cell·Cell .empty) (S·Calls .state (now (one .entry))) (rows (now (steps .entry)) (now (given .entry)) (now (answers .entry)) (now (got .entry))) ⌝ }
     ensures call2 { λ _. ⌜ running (T·Calls .state (now (other .exit))) (now (answers2 .exit)) (now (got2 .exit)) ≡ run-does (Cell·Cell .empty) (T·Calls .state (now (other .entry))) (rows (now (steps .entry)) (now (given .entry)) (now (answers2 .entry)) (now (got2 .entry))) ⌝ }
+    ensures kept { λ _. ⌜ S·Calls .rest (now (one .exit)) ≡ S·Calls .rest (now (one .entry)) ⌝ }
+    ensures kept2 { λ _. ⌜ T·Calls .rest (now (other .exit)) ≡ T·Calls .rest (now (other .entry)) ⌝ }
     ensures alike { λ _. ⌜ RunsAlike (Cell·Cell .empty) (S·Calls .state (now (one .entry))) (T·Calls .state (now (other .entry))) (rows (now (steps .entry)) (now (given .entry)) (now (answers .entry)) (now (got .entry))) (rows (now (steps .entry)) (now (given .entry)) (now (answers2 .entry)) (now (got2 .entry))) (running (S·Calls .state (now (one .exit))) (now (answers .exit)) (now (got .exit))) (running (T·Calls .state (now (other .exit))) (now (answers2 .exit)) (now (got2 .exit))) ⌝ }
 {
     let first = one.run(steps, given, answers, got);

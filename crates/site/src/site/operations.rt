@@ -1,6 +1,6 @@
 // The operations on a site's stores: what each answers, with a store's fault held whole.
 ghost use mathlib.Core.Path.{_≡_};
-ghost use Rattle.site.specs.Means.{site-state};
+ghost use Rattle.site.specs.Means.{site-rests, site-state};
 ghost use Rattle.rules.specs.Site.{outcome, disk-read, disk-write, mark-read, mark-write, local-read, local-write};
 use super::*;
 use records::fault::Operation;
@@ -24,7 +24,8 @@ fn refused(store: StoreName, cell: u32, operation: Operation, fault: Fault) -> S
 impl<D: Store, M: Store<Cell = u32>, B: Bank<Cell = D::Cell>> Site<D, M, B> {
     // Cell i of the disk.
     pub(super) fn disk_read(&mut self, i: u32) -> Result<D::Cell, SiteFault>
-        ensures { λ r. ⌜ outcome (site-state D·Store M·Store B·Bank (now (self .exit))) r ≡ disk-read (site-state D·Store M·Store B·Bank (now (self .entry))) i ⌝ }
+        ensures does { λ r. ⌜ outcome (site-state D·Store M·Store B·Bank (now (self .exit))) r ≡ disk-read (site-state D·Store M·Store B·Bank (now (self .entry))) i ⌝ }
+        ensures kept { λ _. ⌜ site-rests D·Store M·Store B·Bank (now (self .exit)) ≡ site-rests D·Store M·Store B·Bank (now (self .entry)) ⌝ }
     {
         match self.disk.read(i as usize) {
             Ok(v) => Ok(v),
@@ -34,7 +35,8 @@ impl<D: Store, M: Store<Cell = u32>, B: Bank<Cell = D::Cell>> Site<D, M, B> {
 
     // Puts v at cell i of the disk.
     pub(super) fn disk_write(&mut self, i: u32, v: D::Cell) -> Result<(), SiteFault>
-        ensures { λ r. ⌜ outcome (site-state D·Store M·Store B·Bank (now (self .exit))) r ≡ disk-write (site-state D·Store M·Store B·Bank (now (self .entry))) i v ⌝ }
+        ensures does { λ r. ⌜ outcome (site-state D·Store M·Store B·Bank (now (self .exit))) r ≡ disk-write (site-state D·Store M·Store B·Bank (now (self .entry))) i v ⌝ }
+        ensures kept { λ _. ⌜ site-rests D·Store M·Store B·Bank (now (self .exit)) ≡ site-rests D·Store M·Store B·Bank (now (self .entry)) ⌝ }
     {
         match self.disk.write(i as usize, v) {
             Ok(()) => Ok(()),
@@ -44,7 +46,8 @@ impl<D: Store, M: Store<Cell = u32>, B: Bank<Cell = D::Cell>> Site<D, M, B> {
 
     // The mark of disk cell i.
     pub(super) fn mark_read(&mut self, i: u32) -> Result<u32, SiteFault>
-        ensures { λ r. ⌜ outcome (site-state D·Store M·Store B·Bank (now (self .exit))) r ≡ mark-read (site-state D·Store M·Store B·Bank (now (self .entry))) i ⌝ }
+        ensures does { λ r. ⌜ outcome (site-state D·Store M·Store B·Bank (now (self .exit))) r ≡ mark-read (site-state D·Store M·Store B·Bank (now (self .entry))) i ⌝ }
+        ensures kept { λ _. ⌜ site-rests D·Store M·Store B·Bank (now (self .exit)) ≡ site-rests D·Store M·Store B·Bank (now (self .entry)) ⌝ }
     {
         match self.marks.read(i as usize) {
             Ok(v) => Ok(v),
@@ -54,7 +57,8 @@ impl<D: Store, M: Store<Cell = u32>, B: Bank<Cell = D::Cell>> Site<D, M, B> {
 
     // The mark of disk cell i becomes n.
     pub(super) fn mark_write(&mut self, i: u32, n: u32) -> Result<(), SiteFault>
-        ensures { λ r. ⌜ outcome (site-state D·Store M·Store B·Bank (now (self .exit))) r ≡ mark-write (site-state D·Store M·Store B·Bank (now (self .entry))) i n ⌝ }
+        ensures does { λ r. ⌜ outcome (site-state D·Store M·Store B·Bank (now (self .exit))) r ≡ mark-write (site-state D·Store M·Store B·Bank (now (self .entry))) i n ⌝ }
+        ensures kept { λ _. ⌜ site-rests D·Store M·Store B·Bank (now (self .exit)) ≡ site-rests D·Store M·Store B·Bank (now (self .entry)) ⌝ }
     {
         match self.marks.write(i as usize, n) {
             Ok(()) => Ok(()),
@@ -64,7 +68,8 @@ impl<D: Store, M: Store<Cell = u32>, B: Bank<Cell = D::Cell>> Site<D, M, B> {
 
     // Cell i of client k's local store.
     pub(super) fn local_read(&mut self, k: u32, i: u32) -> Result<D::Cell, SiteFault>
-        ensures { λ r. ⌜ outcome (site-state D·Store M·Store B·Bank (now (self .exit))) r ≡ local-read (site-state D·Store M·Store B·Bank (now (self .entry))) k i ⌝ }
+        ensures does { λ r. ⌜ outcome (site-state D·Store M·Store B·Bank (now (self .exit))) r ≡ local-read (site-state D·Store M·Store B·Bank (now (self .entry))) k i ⌝ }
+        ensures kept { λ _. ⌜ site-rests D·Store M·Store B·Bank (now (self .exit)) ≡ site-rests D·Store M·Store B·Bank (now (self .entry)) ⌝ }
     {
         match self.bank.read(k, i as usize) {
             None => Err(SiteFault::NoClient),
@@ -75,7 +80,8 @@ impl<D: Store, M: Store<Cell = u32>, B: Bank<Cell = D::Cell>> Site<D, M, B> {
 
     // Puts v at cell i of client k's local store.
     pub(super) fn local_write(&mut self, k: u32, i: u32, v: D::Cell) -> Result<(), SiteFault>
-        ensures { λ r. ⌜ outcome (site-state D·Store M·Store B·Bank (now (self .exit))) r ≡ local-write (site-state D·Store M·Store B·Bank (now (self .entry))) k i v ⌝ }
+        ensures does { λ r. ⌜ outcome (site-state D·Store M·Store B·Bank (now (self .exit))) r ≡ local-write (site-state D·Store M·Store B·Bank (now (self .entry))) k i v ⌝ }
+        ensures kept { λ _. ⌜ site-rests D·Store M·Store B·Bank (now (self .exit)) ≡ site-rests D·Store M·Store B·Bank (now (self .entry)) ⌝ }
     {
         match self.bank.write(k, i as usize, v) {
             None => Err(SiteFault::NoClient),

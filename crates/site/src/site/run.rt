@@ -6,7 +6,7 @@ ghost use Rattle.rules.specs.Site.{outcome};
 ghost use Rattle.rules.specs.Calls.{begin-step, commit-taken, with-note-of};
 ghost use Rattle.rules.specs.Replies.{CommitStep, GiveUpStep, out, called};
 ghost use Rattle.rules.specs.Runs.{call-of, running, ran, run-answer};
-ghost use Rattle.site.specs.Means.{site-state};
+ghost use Rattle.site.specs.Means.{site-rests, site-state};
 ghost use Rattle.site.specs.Steps.{as-reply, stepped, step-left, rows};
 use super::*;
 use crate::reply::Done;
@@ -27,14 +27,16 @@ use store::Cell;
 impl<D: Store, M: Store<Cell = u32>, B: Bank<Cell = D::Cell>> Site<D, M, B> {
     // Writes the slip into client k's record, over any older one.
     fn note(&mut self, k: u32, slip: Slip)
-        ensures { λ _. ⌜ site-state D·Store M·Store B·Bank (now (self .exit)) ≡ with-note-of (site-state D·Store M·Store B·Bank (now (self .entry))) k (Some (slip .flush)) ⌝ }
+        ensures does { λ _. ⌜ site-state D·Store M·Store B·Bank (now (self .exit)) ≡ with-note-of (site-state D·Store M·Store B·Bank (now (self .entry))) k (Some (slip .flush)) ⌝ }
+        ensures kept { λ _. ⌜ site-rests D·Store M·Store B·Bank (now (self .exit)) ≡ site-rests D·Store M·Store B·Bank (now (self .entry)) ⌝ }
     {
         self.table.note(k, Some(slip.spend()));
     }
 
     // Begins, and notes the slip.
     fn begin_step(&mut self, k: u32, i: u32) -> Result<Flush, SiteFault>
-        ensures { λ r. ⌜ outcome (site-state D·Store M·Store B·Bank (now (self .exit))) r ≡ begin-step (site-state D·Store M·Store B·Bank (now (self .entry))) k i ⌝ }
+        ensures does { λ r. ⌜ outcome (site-state D·Store M·Store B·Bank (now (self .exit))) r ≡ begin-step (site-state D·Store M·Store B·Bank (now (self .entry))) k i ⌝ }
+        ensures kept { λ _. ⌜ site-rests D·Store M·Store B·Bank (now (self .exit)) ≡ site-rests D·Store M·Store B·Bank (now (self .entry)) ⌝ }
     {
         let slip = self.do_begin(k, i)?;
         let flush = slip.flush();
@@ -44,7 +46,8 @@ impl<D: Store, M: Store<Cell = u32>, B: Bank<Cell = D::Cell>> Site<D, M, B> {
 
     // Commits; a slip that comes back is noted again.
     fn commit_taken(&mut self, k: u32, slip: Slip) -> Result<(), SiteFault>
-        ensures { λ r. ⌜ outcome (site-state D·Store M·Store B·Bank (now (self .exit))) r ≡ commit-taken (Cell·Cell .empty) (site-state D·Store M·Store B·Bank (now (self .entry))) k (slip .flush) ⌝ }
+        ensures does { λ r. ⌜ outcome (site-state D·Store M·Store B·Bank (now (self .exit))) r ≡ commit-taken (Cell·Cell .empty) (site-state D·Store M·Store B·Bank (now (self .entry))) k (slip .flush) ⌝ }
+        ensures kept { λ _. ⌜ site-rests D·Store M·Store B·Bank (now (self .exit)) ≡ site-rests D·Store M·Store B·Bank (now (self .entry)) ⌝ }
     {
         match self.do_commit(slip) {
             Ok(()) => Ok(()),
@@ -57,7 +60,8 @@ impl<D: Store, M: Store<Cell = u32>, B: Bank<Cell = D::Cell>> Site<D, M, B> {
 
     // Takes client k's slip up, and commits it.
     fn commit_step(&mut self, k: u32) -> Done<D::Cell>
-        ensures { λ r. ⌜ out (site-state D·Store M·Store B·Bank (now (self .exit))) (as-reply r) ≡ called (Cell·Cell .empty) (site-state D·Store M·Store B·Bank (now (self .entry))) (CommitStep k) ⌝ }
+        ensures does { λ r. ⌜ out (site-state D·Store M·Store B·Bank (now (self .exit))) (as-reply r) ≡ called (Cell·Cell .empty) (site-state D·Store M·Store B·Bank (now (self .entry))) (CommitStep k) ⌝ }
+        ensures kept { λ _. ⌜ site-rests D·Store M·Store B·Bank (now (self .exit)) ≡ site-rests D·Store M·Store B·Bank (now (self .entry)) ⌝ }
     {
         match self.table.taking_to_commit(k) {
             Ok(flush) => {
@@ -70,7 +74,8 @@ impl<D: Store, M: Store<Cell = u32>, B: Bank<Cell = D::Cell>> Site<D, M, B> {
 
     // Takes client k's slip up, and gives it up.
     fn give_up_step(&mut self, k: u32) -> Done<D::Cell>
-        ensures { λ r. ⌜ out (site-state D·Store M·Store B·Bank (now (self .exit))) (as-reply r) ≡ called (Cell·Cell .empty) (site-state D·Store M·Store B·Bank (now (self .entry))) (GiveUpStep k) ⌝ }
+        ensures does { λ r. ⌜ out (site-state D·Store M·Store B·Bank (now (self .exit))) (as-reply r) ≡ called (Cell·Cell .empty) (site-state D·Store M·Store B·Bank (now (self .entry))) (GiveUpStep k) ⌝ }
+        ensures kept { λ _. ⌜ site-rests D·Store M·Store B·Bank (now (self .exit)) ≡ site-rests D·Store M·Store B·Bank (now (self .entry)) ⌝ }
     {
         match self.table.taking_to_give_up(k) {
             Ok(flush) => {
@@ -83,7 +88,8 @@ impl<D: Store, M: Store<Cell = u32>, B: Bank<Cell = D::Cell>> Site<D, M, B> {
 
     // The call that a step makes, by its number.
     fn do_step(&mut self, step: Step, given: D::Cell) -> Done<D::Cell>
-        ensures { λ r. ⌜ out (site-state D·Store M·Store B·Bank (now (self .exit))) (as-reply r) ≡ called (Cell·Cell .empty) (site-state D·Store M·Store B·Bank (now (self .entry))) (call-of step given) ⌝ }
+        ensures does { λ r. ⌜ out (site-state D·Store M·Store B·Bank (now (self .exit))) (as-reply r) ≡ called (Cell·Cell .empty) (site-state D·Store M·Store B·Bank (now (self .entry))) (call-of step given) ⌝ }
+        ensures kept { λ _. ⌜ site-rests D·Store M·Store B·Bank (now (self .exit)) ≡ site-rests D·Store M·Store B·Bank (now (self .entry)) ⌝ }
     {
         let k = step.client;
         let i = step.cell;
@@ -104,7 +110,8 @@ impl<D: Store, M: Store<Cell = u32>, B: Bank<Cell = D::Cell>> Site<D, M, B> {
 
     // One step: its answer, and the cell got at an accepted read only.
     fn step(&mut self, step: Step, given: D::Cell, answer: &mut Answer, got: &mut D::Cell)
-        ensures { λ _. ⌜ stepped (site-state D·Store M·Store B·Bank (now (self .exit))) (now (answer .exit)) (now (got .exit)) ≡ step-left (called (Cell·Cell .empty) (site-state D·Store M·Store B·Bank (now (self .entry))) (call-of step given)) (now (got .entry)) ⌝ }
+        ensures does { λ _. ⌜ stepped (site-state D·Store M·Store B·Bank (now (self .exit))) (now (answer .exit)) (now (got .exit)) ≡ step-left (called (Cell·Cell .empty) (site-state D·Store M·Store B·Bank (now (self .entry))) (call-of step given)) (now (got .entry)) ⌝ }
+        ensures kept { λ _. ⌜ site-rests D·Store M·Store B·Bank (now (self .exit)) ≡ site-rests D·Store M·Store B·Bank (now (self .entry)) ⌝ }
     {
         let done = self.do_step(step, given);
         *answer = done.answer;
@@ -123,6 +130,7 @@ impl<D: Store, M: Store<Cell = u32>, B: Bank<Cell = D::Cell>> Site<D, M, B> {
     ) -> Result<(), SiteFault>
         ensures answer { λ r. ⌜ r ≡ run-answer (rows (now (steps .entry)) (now (given .entry)) (now (answers .entry)) (now (got .entry))) ⌝ }
         ensures left { λ _. ⌜ running (site-state D·Store M·Store B·Bank (now (self .exit))) (now (answers .exit)) (now (got .exit)) ≡ ran (called (Cell·Cell .empty)) (site-state D·Store M·Store B·Bank (now (self .entry))) (rows (now (steps .entry)) (now (given .entry)) (now (answers .entry)) (now (got .entry))) ⌝ }
+        ensures kept { λ _. ⌜ site-rests D·Store M·Store B·Bank (now (self .exit)) ≡ site-rests D·Store M·Store B·Bank (now (self .entry)) ⌝ }
     {
         let n = steps.len();
         if given.len() != n || answers.len() != n || got.len() != n {

@@ -1,6 +1,7 @@
 // What each call does: the questions, the operations in their order, and the change of the records last.
 ghost use mathlib.Core.Path.{_≡_};
-ghost use Rattle.site.specs.Means.{site-state};
+ghost use Rattle.site.specs.Means.{site-rests, site-state};
+ghost use Rattle.site.specs.Reads.{read-admitted, read-by-mark};
 ghost use Rattle.site.specs.Slips.{begin-given, settled, commit-flush, commit-given};
 ghost use Rattle.rules.specs.Site.{outcome};
 ghost use Rattle.rules.specs.Calls.{open-call, read-local, read-confirmed, read-fetched, read-call, write-call, give-up-call, close-call, sweeping, invalidate-call, restart-client-call, restart-server-call};
@@ -17,7 +18,8 @@ use store::Cell;
 
 impl<D: Store, M: Store<Cell = u32>, B: Bank<Cell = D::Cell>> Site<D, M, B> {
     pub(crate) fn do_open(&mut self, k: u32) -> Result<u32, SiteFault>
-        ensures { λ r. ⌜ outcome (site-state D·Store M·Store B·Bank (now (self .exit))) r ≡ open-call (site-state D·Store M·Store B·Bank (now (self .entry))) k ⌝ }
+        ensures does { λ r. ⌜ outcome (site-state D·Store M·Store B·Bank (now (self .exit))) r ≡ open-call (site-state D·Store M·Store B·Bank (now (self .entry))) k ⌝ }
+        ensures kept { λ _. ⌜ site-rests D·Store M·Store B·Bank (now (self .exit)) ≡ site-rests D·Store M·Store B·Bank (now (self .entry)) ⌝ }
     {
         let session = self.table.opening(k)?;
         self.table.open(k, session);
@@ -26,10 +28,26 @@ impl<D: Store, M: Store<Cell = u32>, B: Bank<Cell = D::Cell>> Site<D, M, B> {
 
     // The cell read, and its source: 1 the local copy, 2 the copy once checked, 3 the disk.
     pub(crate) fn do_read(&mut self, k: u32, i: u32) -> Result<(D::Cell, u8), SiteFault>
-        ensures { λ r. ⌜ outcome (site-state D·Store M·Store B·Bank (now (self .exit))) r ≡ read-call (site-state D·Store M·Store B·Bank (now (self .entry))) k i ⌝ }
+        ensures does { λ r. ⌜ outcome (site-state D·Store M·Store B·Bank (now (self .exit))) r ≡ read-call (site-state D·Store M·Store B·Bank (now (self .entry))) k i ⌝ }
+        ensures kept { λ _. ⌜ site-rests D·Store M·Store B·Bank (now (self .exit)) ≡ site-rests D·Store M·Store B·Bank (now (self .entry)) ⌝ }
     {
-        let mut cell = self.table.admitted(k, i)?;
+        let cell = self.table.admitted(k, i)?;
         let in_journal = self.table.in_journal(k, i);
+        self.read_admitted(k, i, cell, in_journal)
+    }
+
+    // A read of a cell with its record, in the journal or not: the server is asked where the copy alone does
+    // not count.
+    fn read_admitted(
+        &mut self,
+        k: u32,
+        i: u32,
+        mut cell: CellRecord,
+        in_journal: bool,
+    ) -> Result<(D::Cell, u8), SiteFault>
+        ensures does { λ r. ⌜ outcome (site-state D·Store M·Store B·Bank (now (self .exit))) r ≡ read-admitted (site-state D·Store M·Store B·Bank (now (self .entry))) k i cell «in_journal» ⌝ }
+        ensures kept { λ _. ⌜ site-rests D·Store M·Store B·Bank (now (self .exit)) ≡ site-rests D·Store M·Store B·Bank (now (self .entry)) ⌝ }
+    {
         if let Reaction::Local = cell.react(Event::Read {
             in_journal,
             mark: None,
@@ -37,17 +55,34 @@ impl<D: Store, M: Store<Cell = u32>, B: Bank<Cell = D::Cell>> Site<D, M, B> {
             return self.read_local(k, i);
         }
         let mark = self.mark_read(i)?;
+        self.read_by_mark(k, i, cell, in_journal, mark)
+    }
+
+    // A read once the server's mark is known.
+    fn read_by_mark(
+        &mut self,
+        k: u32,
+        i: u32,
+        mut cell: CellRecord,
+        in_journal: bool,
+        mark: u32,
+    ) -> Result<(D::Cell, u8), SiteFault>
+        ensures does { λ r. ⌜ outcome (site-state D·Store M·Store B·Bank (now (self .exit))) r ≡ read-by-mark (site-state D·Store M·Store B·Bank (now (self .entry))) k i cell «in_journal» mark ⌝ }
+        ensures kept { λ _. ⌜ site-rests D·Store M·Store B·Bank (now (self .exit)) ≡ site-rests D·Store M·Store B·Bank (now (self .entry)) ⌝ }
+    {
         match cell.react(Event::Read {
             in_journal,
             mark: Some(mark),
         }) {
+            Reaction::Local => self.read_local(k, i),
             Reaction::Confirm => self.read_confirmed(k, i, cell),
             _ => self.read_fetched(k, i, cell),
         }
     }
 
     fn read_local(&mut self, k: u32, i: u32) -> Result<(D::Cell, u8), SiteFault>
-        ensures { λ r. ⌜ outcome (site-state D·Store M·Store B·Bank (now (self .exit))) r ≡ read-local (site-state D·Store M·Store B·Bank (now (self .entry))) k i ⌝ }
+        ensures does { λ r. ⌜ outcome (site-state D·Store M·Store B·Bank (now (self .exit))) r ≡ read-local (site-state D·Store M·Store B·Bank (now (self .entry))) k i ⌝ }
+        ensures kept { λ _. ⌜ site-rests D·Store M·Store B·Bank (now (self .exit)) ≡ site-rests D·Store M·Store B·Bank (now (self .entry)) ⌝ }
     {
         let v = self.local_read(k, i)?;
         Ok((v, 1))
@@ -59,7 +94,8 @@ impl<D: Store, M: Store<Cell = u32>, B: Bank<Cell = D::Cell>> Site<D, M, B> {
         i: u32,
         cell: CellRecord,
     ) -> Result<(D::Cell, u8), SiteFault>
-        ensures { λ r. ⌜ outcome (site-state D·Store M·Store B·Bank (now (self .exit))) r ≡ read-confirmed (site-state D·Store M·Store B·Bank (now (self .entry))) k i cell ⌝ }
+        ensures does { λ r. ⌜ outcome (site-state D·Store M·Store B·Bank (now (self .exit))) r ≡ read-confirmed (site-state D·Store M·Store B·Bank (now (self .entry))) k i cell ⌝ }
+        ensures kept { λ _. ⌜ site-rests D·Store M·Store B·Bank (now (self .exit)) ≡ site-rests D·Store M·Store B·Bank (now (self .entry)) ⌝ }
     {
         let v = self.local_read(k, i)?;
         self.table.put(k, i, cell);
@@ -67,7 +103,8 @@ impl<D: Store, M: Store<Cell = u32>, B: Bank<Cell = D::Cell>> Site<D, M, B> {
     }
 
     fn read_fetched(&mut self, k: u32, i: u32, cell: CellRecord) -> Result<(D::Cell, u8), SiteFault>
-        ensures { λ r. ⌜ outcome (site-state D·Store M·Store B·Bank (now (self .exit))) r ≡ read-fetched (site-state D·Store M·Store B·Bank (now (self .entry))) k i cell ⌝ }
+        ensures does { λ r. ⌜ outcome (site-state D·Store M·Store B·Bank (now (self .exit))) r ≡ read-fetched (site-state D·Store M·Store B·Bank (now (self .entry))) k i cell ⌝ }
+        ensures kept { λ _. ⌜ site-rests D·Store M·Store B·Bank (now (self .exit)) ≡ site-rests D·Store M·Store B·Bank (now (self .entry)) ⌝ }
     {
         let v = self.disk_read(i)?;
         self.local_write(k, i, v)?;
@@ -76,7 +113,8 @@ impl<D: Store, M: Store<Cell = u32>, B: Bank<Cell = D::Cell>> Site<D, M, B> {
     }
 
     pub(crate) fn do_write(&mut self, k: u32, i: u32, v: D::Cell) -> Result<(), SiteFault>
-        ensures { λ r. ⌜ outcome (site-state D·Store M·Store B·Bank (now (self .exit))) r ≡ write-call (site-state D·Store M·Store B·Bank (now (self .entry))) k i v ⌝ }
+        ensures does { λ r. ⌜ outcome (site-state D·Store M·Store B·Bank (now (self .exit))) r ≡ write-call (site-state D·Store M·Store B·Bank (now (self .entry))) k i v ⌝ }
+        ensures kept { λ _. ⌜ site-rests D·Store M·Store B·Bank (now (self .exit)) ≡ site-rests D·Store M·Store B·Bank (now (self .entry)) ⌝ }
     {
         let mut cell = self.table.admitted(k, i)?;
         let session = self.table.session();
@@ -87,7 +125,8 @@ impl<D: Store, M: Store<Cell = u32>, B: Bank<Cell = D::Cell>> Site<D, M, B> {
     }
 
     pub(crate) fn do_begin(&mut self, k: u32, i: u32) -> Result<Slip, SiteFault>
-        ensures { λ r. ⌜ outcome (site-state D·Store M·Store B·Bank (now (self .exit))) r ≡ begin-given (site-state D·Store M·Store B·Bank (now (self .entry))) k i ⌝ }
+        ensures does { λ r. ⌜ outcome (site-state D·Store M·Store B·Bank (now (self .exit))) r ≡ begin-given (site-state D·Store M·Store B·Bank (now (self .entry))) k i ⌝ }
+        ensures kept { λ _. ⌜ site-rests D·Store M·Store B·Bank (now (self .exit)) ≡ site-rests D·Store M·Store B·Bank (now (self .entry)) ⌝ }
     {
         let (cell, turn) = self.table.beginning(k, i)?;
         let journal = self.table.size();
@@ -102,7 +141,8 @@ impl<D: Store, M: Store<Cell = u32>, B: Bank<Cell = D::Cell>> Site<D, M, B> {
     }
 
     fn commit_flush(&mut self, flush: Flush) -> Result<(), SiteFault>
-        ensures { λ r. ⌜ outcome (site-state D·Store M·Store B·Bank (now (self .exit))) r ≡ commit-flush (Cell·Cell .empty) (site-state D·Store M·Store B·Bank (now (self .entry))) flush ⌝ }
+        ensures does { λ r. ⌜ outcome (site-state D·Store M·Store B·Bank (now (self .exit))) r ≡ commit-flush (Cell·Cell .empty) (site-state D·Store M·Store B·Bank (now (self .entry))) flush ⌝ }
+        ensures kept { λ _. ⌜ site-rests D·Store M·Store B·Bank (now (self .exit)) ≡ site-rests D·Store M·Store B·Bank (now (self .entry)) ⌝ }
     {
         let Flush { client, cell, turn } = flush;
         self.table.committing(client, cell, turn)?;
@@ -117,7 +157,8 @@ impl<D: Store, M: Store<Cell = u32>, B: Bank<Cell = D::Cell>> Site<D, M, B> {
     }
 
     pub(crate) fn do_commit(&mut self, slip: Slip) -> Result<(), Returned>
-        ensures { λ r. ⌜ settled (site-state D·Store M·Store B·Bank (now (self .exit))) r ≡ commit-given (Cell·Cell .empty) (site-state D·Store M·Store B·Bank (now (self .entry))) slip ⌝ }
+        ensures does { λ r. ⌜ settled (site-state D·Store M·Store B·Bank (now (self .exit))) r ≡ commit-given (Cell·Cell .empty) (site-state D·Store M·Store B·Bank (now (self .entry))) slip ⌝ }
+        ensures kept { λ _. ⌜ site-rests D·Store M·Store B·Bank (now (self .exit)) ≡ site-rests D·Store M·Store B·Bank (now (self .entry)) ⌝ }
     {
         match self.commit_flush(slip.flush()) {
             Ok(()) => {
@@ -129,7 +170,8 @@ impl<D: Store, M: Store<Cell = u32>, B: Bank<Cell = D::Cell>> Site<D, M, B> {
     }
 
     pub(crate) fn do_give_up(&mut self, slip: Slip) -> Result<(), SiteFault>
-        ensures { λ r. ⌜ outcome (site-state D·Store M·Store B·Bank (now (self .exit))) r ≡ give-up-call (site-state D·Store M·Store B·Bank (now (self .entry))) (slip .flush .client) (slip .flush .cell) (slip .flush .turn) ⌝ }
+        ensures does { λ r. ⌜ outcome (site-state D·Store M·Store B·Bank (now (self .exit))) r ≡ give-up-call (site-state D·Store M·Store B·Bank (now (self .entry))) (slip .flush .client) (slip .flush .cell) (slip .flush .turn) ⌝ }
+        ensures kept { λ _. ⌜ site-rests D·Store M·Store B·Bank (now (self .exit)) ≡ site-rests D·Store M·Store B·Bank (now (self .entry)) ⌝ }
     {
         let Flush { client, cell, turn } = slip.spend();
         self.table.giving_up(client, cell, turn)?;
@@ -138,7 +180,8 @@ impl<D: Store, M: Store<Cell = u32>, B: Bank<Cell = D::Cell>> Site<D, M, B> {
     }
 
     pub(crate) fn do_close(&mut self, k: u32) -> Result<(), SiteFault>
-        ensures { λ r. ⌜ outcome (site-state D·Store M·Store B·Bank (now (self .exit))) r ≡ close-call (site-state D·Store M·Store B·Bank (now (self .entry))) k ⌝ }
+        ensures does { λ r. ⌜ outcome (site-state D·Store M·Store B·Bank (now (self .exit))) r ≡ close-call (site-state D·Store M·Store B·Bank (now (self .entry))) k ⌝ }
+        ensures kept { λ _. ⌜ site-rests D·Store M·Store B·Bank (now (self .exit)) ≡ site-rests D·Store M·Store B·Bank (now (self .entry)) ⌝ }
     {
         self.table.closing(k)?;
         self.table.close(k);
@@ -146,7 +189,8 @@ impl<D: Store, M: Store<Cell = u32>, B: Bank<Cell = D::Cell>> Site<D, M, B> {
     }
 
     pub(crate) fn do_invalidate(&mut self, k: u32) -> Swept
-        ensures { λ r. ⌜ sweeping (site-state D·Store M·Store B·Bank (now (self .exit))) r ≡ invalidate-call (site-state D·Store M·Store B·Bank (now (self .entry))) k ⌝ }
+        ensures does { λ r. ⌜ sweeping (site-state D·Store M·Store B·Bank (now (self .exit))) r ≡ invalidate-call (site-state D·Store M·Store B·Bank (now (self .entry))) k ⌝ }
+        ensures kept { λ _. ⌜ site-rests D·Store M·Store B·Bank (now (self .exit)) ≡ site-rests D·Store M·Store B·Bank (now (self .entry)) ⌝ }
     {
         match self.table.holding(k) {
             Ok(()) => {
@@ -162,7 +206,8 @@ impl<D: Store, M: Store<Cell = u32>, B: Bank<Cell = D::Cell>> Site<D, M, B> {
     }
 
     pub(crate) fn do_restart_client(&mut self, k: u32, n: u32) -> Result<(), SiteFault>
-        ensures { λ r. ⌜ outcome (site-state D·Store M·Store B·Bank (now (self .exit))) r ≡ restart-client-call (site-state D·Store M·Store B·Bank (now (self .entry))) k n ⌝ }
+        ensures does { λ r. ⌜ outcome (site-state D·Store M·Store B·Bank (now (self .exit))) r ≡ restart-client-call (site-state D·Store M·Store B·Bank (now (self .entry))) k n ⌝ }
+        ensures kept { λ _. ⌜ site-rests D·Store M·Store B·Bank (now (self .exit)) ≡ site-rests D·Store M·Store B·Bank (now (self .entry)) ⌝ }
     {
         self.table.present(k)?;
         self.bank.renew(k, n);
@@ -171,7 +216,8 @@ impl<D: Store, M: Store<Cell = u32>, B: Bank<Cell = D::Cell>> Site<D, M, B> {
     }
 
     pub(crate) fn do_restart_server(&mut self, n: u32, m: u32) -> Result<(), SiteFault>
-        ensures { λ r. ⌜ outcome (site-state D·Store M·Store B·Bank (now (self .exit))) r ≡ restart-server-call (site-state D·Store M·Store B·Bank (now (self .entry))) n m ⌝ }
+        ensures does { λ r. ⌜ outcome (site-state D·Store M·Store B·Bank (now (self .exit))) r ≡ restart-server-call (site-state D·Store M·Store B·Bank (now (self .entry))) n m ⌝ }
+        ensures kept { λ _. ⌜ site-rests D·Store M·Store B·Bank (now (self .exit)) ≡ site-rests D·Store M·Store B·Bank (now (self .entry)) ⌝ }
     {
         self.table.fit()?;
         self.disk.renew(n);

@@ -11,4 +11,4 @@ returns-in-Ok-read g c =
       locals = g .B·Bank .stores (c .args .bank);
       session = c .args .session;
     })
-    _ _ _ _ _ _ _ _ (c .make-site .ensures) (c .in-None .ensures tt) (c .in-Ok .ensures tt .call) (c .in-Ok-write .ensures tt .call) (c .in-Ok-read .ensures tt .upheld)
+    _ _ _ _ _ _ _ _ (c .make-site .ensures .does) (c .in-None .ensures tt) (c .in-Ok .ensures tt .call) (c .in-Ok-write .ensures tt .call) (c .in-Ok-read .ensures tt .upheld)

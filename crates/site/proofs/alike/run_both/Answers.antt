@@ -9,5 +9,7 @@ returns g c = record {
   answer2 = c .run-second .ensures .answer;
   call = c .run-first .ensures .call;
   call2 = c .run-second .ensures .call;
+  kept = c .run-first .ensures .kept;
+  kept2 = c .run-second .ensures .kept;
   alike = runs-alike _ _ _ _ _ _ _ (c .run-first .ensures .call) (c .run-second .ensures .call);
 }

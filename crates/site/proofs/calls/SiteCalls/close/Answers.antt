@@ -4,4 +4,4 @@ use Rattle.site.proofs.calls.SiteCalls.close.Needs as need
 
 pub returns : need.returns
 unfolding close-does
-returns g c = record { call = c .do-close .ensures; upheld = close-carried _ _ _ _ _ (c .do-close .ensures) }
+returns g c = record { call = c .do-close .ensures .does; upheld = close-carried _ _ _ _ _ (c .do-close .ensures .does); kept = c .do-close .ensures .kept }

@@ -4,4 +4,4 @@ use Rattle.site.proofs.calls.SiteCalls.commit.Needs as need
 
 pub returns : need.returns
 unfolding commit-does
-returns g c = record { call = c .do-commit .ensures; upheld = commit-upheld _ _ _ _ _ (c .do-commit .ensures) }
+returns g c = record { call = c .do-commit .ensures .does; upheld = commit-upheld _ _ _ _ _ (c .do-commit .ensures .does); kept = c .do-commit .ensures .kept }

@@ -4,4 +4,4 @@ use Rattle.site.proofs.calls.SiteCalls.invalidate.Needs as need
 
 pub returns : need.returns
 unfolding invalidate-does
-returns g c = record { call = c .do-invalidate .ensures; upheld = invalidate-carried _ _ _ _ _ (c .do-invalidate .ensures) }
+returns g c = record { call = c .do-invalidate .ensures .does; upheld = invalidate-carried _ _ _ _ _ (c .do-invalidate .ensures .does); kept = c .do-invalidate .ensures .kept }

@@ -7,5 +7,6 @@ unfolding run-does
 returns g c = record {
   answer = c .do-run .ensures .answer;
   call = c .do-run .ensures .left;
+  kept = c .do-run .ensures .kept;
   upheld = continues-run _ _ _ _ _ _ (c .do-run .ensures .left);
 }

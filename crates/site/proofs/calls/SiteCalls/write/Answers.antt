@@ -4,4 +4,4 @@ use Rattle.site.proofs.calls.SiteCalls.write.Needs as need
 
 pub returns : need.returns
 unfolding write-does
-returns g c = record { call = c .do-write .ensures; upheld = write-carried _ _ _ _ _ _ _ (c .do-write .ensures) }
+returns g c = record { call = c .do-write .ensures .does; upheld = write-carried _ _ _ _ _ _ _ (c .do-write .ensures .does); kept = c .do-write .ensures .kept }

@@ -10,11 +10,15 @@ use Rattle.site.proofs.Stepping.{commit-noted, same-slip}
 use Rattle.site.proofs.site.Site.commit_taken.Needs as need
 
 pub returns-in-Ok : need.returns-in-Ok
-returns-in-Ok g c = commit-noted _ _ _ _ _ _ (c .in-Ok .ensures tt)
+returns-in-Ok g c = record { does = commit-noted (g .Cell·Cell .empty) (site-state (g .D·Store) (g .M·Store) (g .B·Bank) (c .args .self .now)) (site-state (g .D·Store) (g .M·Store) (g .B·Bank) (c .do-commit .last .self)) (c .args .k) (c .args .slip) _ (c .in-Ok .ensures tt .does); kept = c .in-Ok .ensures tt .kept }
 
 pub returns-in-Err : need.returns-in-Err
 returns-in-Err g c =
     let left = (site-state (g .D·Store) (g .M·Store) (g .B·Bank) (c .do-commit .last .self)) in
-    ap (λ s. outcome s (Err (c .in-Err .field-0 .fault))) (c .note .ensures)
-    ∙ ap (λ (n : Slip). outcome (with-note-of left (c .args .k) (Some (n .flush))) (Err (c .in-Err .field-0 .fault))) (same-slip _ _ _ _ _ (c .in-Err .ensures tt))
-    ∙ commit-noted _ _ _ _ _ _ (c .in-Err .ensures tt)
+    record {
+      does =
+          ap (λ s. outcome s (Err (c .in-Err .field-0 .fault))) (c .note .ensures .does)
+          ∙ ap (λ (n : Slip). outcome (with-note-of left (c .args .k) (Some (n .flush))) (Err (c .in-Err .field-0 .fault))) (same-slip (g .Cell·Cell .empty) (site-state (g .D·Store) (g .M·Store) (g .B·Bank) (c .args .self .now)) left (c .args .slip) (c .in-Err .field-0) (c .in-Err .ensures tt .does))
+          ∙ commit-noted (g .Cell·Cell .empty) (site-state (g .D·Store) (g .M·Store) (g .B·Bank) (c .args .self .now)) left (c .args .k) (c .args .slip) (Err (c .in-Err .field-0)) (c .in-Err .ensures tt .does);
+      kept = c .note .ensures .kept ∙ c .in-Err .ensures tt .kept;
+    }

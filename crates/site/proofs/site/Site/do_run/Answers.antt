@@ -17,12 +17,14 @@ abbrev no-step : Step
 no-step = record { call = 0; client = 0; cell = 0; first = 0; second = 0 }
 
 pub loop-i-again : need.loop-i-again
-loop-i-again g c =
-    run-next (called (g .Cell·Cell .empty)) (c .args .steps .now) (c .args .given .now) (c .loop-i .i) no-step _ (c .index-given-i .result) (c .index-got-i .result)
-    (site-state (g .D·Store) (g .M·Store) (g .B·Bank) (c .loop-i .self)) (site-state (g .D·Store) (g .M·Store) (g .B·Bank) (c .step .last .self))
-    (c .loop-i .answers) (c .loop-i .got) (c .step .last .answer) (c .step .last .got)
-    (c .loop-i-test .taken) (omega arith) refl (c .index-given-i .is) (c .step .ensures)
-    ∙ c .loop-i .inv
+loop-i-again g c = (
+  run-next (called (g .Cell·Cell .empty)) (c .args .steps .now) (c .args .given .now) (c .loop-i .i) no-step _ (c .index-given-i .result) (c .index-got-i .result)
+      (site-state (g .D·Store) (g .M·Store) (g .B·Bank) (c .loop-i .self)) (site-state (g .D·Store) (g .M·Store) (g .B·Bank) (c .step .last .self))
+      (c .loop-i .answers) (c .loop-i .got) (c .step .last .answer) (c .step .last .got)
+      (c .loop-i-test .taken) (omega arith) refl (c .index-given-i .is) (c .step .ensures .does)
+      ∙ c .loop-i .inv .0,
+  c .step .ensures .kept ∙ c .loop-i .inv .1,
+)
 
 pub returns-then-given-n : need.returns-then-given-n
 unfolding ran run-from
@@ -38,6 +40,7 @@ returns-then-given-n g c =
       left =
           sym (ap (λ b. run-from (called (g .Cell·Cell .empty)) (cond b (calls-of (c .args .steps .now) (c .args .given .now)) []) 0
           (running (site-state (g .D·Store) (g .M·Store) (g .B·Bank) (c .args .self .now)) (c .args .answers .now) (c .args .got .now))) no);
+      kept = refl;
     }
 
 pub returns : need.returns
@@ -50,7 +53,8 @@ returns g c =
       left =
           sym (run-end (called (g .Cell·Cell .empty)) (c .args .steps .now) (c .args .given .now) (c .loop-i .i)
           (running (site-state (g .D·Store) (g .M·Store) (g .B·Bank) (c .loop-i .self)) (c .loop-i .answers) (c .loop-i .got)) (c .loop-i-test .left))
-          ∙ c .loop-i .inv
+          ∙ c .loop-i .inv .0
           ∙ sym (ap (λ b. run-from (called (g .Cell·Cell .empty)) (cond b (calls-of (c .args .steps .now) (c .args .given .now)) []) 0
           (running (site-state (g .D·Store) (g .M·Store) (g .B·Bank) (c .args .self .now)) (c .args .answers .now) (c .args .got .now))) yes);
+      kept = c .loop-i .inv .1;
     }
