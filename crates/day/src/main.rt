@@ -87,11 +87,14 @@ fn restart_client(rt: &impl Print, site: &mut impl Calls<Cell = Sector>, client:
     say(rt, client, "restarts with a life of", life, ended(answer));
 }
 
-// Commits a flush; a slip that comes back is tried again once the server is back, and else given up.
-fn commit(rt: &impl Print, site: &mut impl Calls<Cell = Sector>, slip: Slip) {
+// Commits a flush; the slip comes back where it is refused.
+fn try_commit(rt: &impl Print, site: &mut impl Calls<Cell = Sector>, slip: Slip) -> Option<Slip> {
     let flush = slip.flush();
     match site.commit(slip) {
-        Ok(()) => say(rt, flush.client, "commits sector", flush.cell, 0),
+        Ok(()) => {
+            say(rt, flush.client, "commits sector", flush.cell, 0);
+            None
+        }
         Err(Returned { slip, fault }) => {
             say(
                 rt,
@@ -100,34 +103,29 @@ fn commit(rt: &impl Print, site: &mut impl Calls<Cell = Sector>, slip: Slip) {
                 flush.cell,
                 fault.number(),
             );
-            restart_server(rt, site, 9, 9);
-            retry(rt, site, slip);
+            Some(slip)
         }
     }
 }
 
-fn retry(rt: &impl Print, site: &mut impl Calls<Cell = Sector>, slip: Slip) {
-    let flush = slip.flush();
-    match site.commit(slip) {
-        Ok(()) => say(rt, flush.client, "commits sector", flush.cell, 0),
-        Err(Returned { slip, fault }) => {
-            say(
-                rt,
-                flush.client,
-                "commits sector",
-                flush.cell,
-                fault.number(),
-            );
-            let answer = site.give_up(slip);
-            say(
-                rt,
-                flush.client,
-                "gives up the flush of sector",
-                flush.cell,
-                ended(answer),
-            );
-        }
-    }
+// Commits a flush; a slip that comes back is tried again once the server is back, and then given up.
+fn commit(rt: &impl Print, site: &mut impl Calls<Cell = Sector>, slip: Slip) {
+    let Some(back) = try_commit(rt, site, slip) else {
+        return;
+    };
+    restart_server(rt, site, 9, 9);
+    let Some(again) = try_commit(rt, site, back) else {
+        return;
+    };
+    let flush = again.flush();
+    let answer = site.give_up(again);
+    say(
+        rt,
+        flush.client,
+        "gives up the flush of sector",
+        flush.cell,
+        ended(answer),
+    );
 }
 
 // Begins a flush, lets the server lose power with these lives left, and commits.

@@ -9,7 +9,7 @@ pub struct CellRecord {
     pub dirty: bool,
 }
 
-// The plain numbers of a slip, the paper that a begun flush gives out: whose flush, of which cell, and at
+// The plain numbers of a slip, the token that a begun flush gives out: whose flush, of which cell, and at
 // which turn (the how-manieth flush of that client).
 #[derive(Clone, Copy)]
 pub struct Flush {

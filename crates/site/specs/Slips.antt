@@ -1,4 +1,4 @@
--- What a slip is when it is given out, and what comes of it. A slip is the paper that a begun flush gives out, to be handed in exactly once.
+-- What a slip is when it is given out, and what comes of it. A slip is the token that a begun flush gives out, to be handed in exactly once.
 use mathlib.Core.Bool.{false}
 use Rattle.std.specs.declared.result.Result.{Result}
 use Rattle.std.specs.declared.result.Result.the-variants.{Ok, Err}

@@ -1,4 +1,4 @@
-// Slips. A slip is the paper that a begun flush gives out: it names the client, the cell and the turn, and is
+// Slips. A slip is the token that a begun flush gives out: it names the client, the cell and the turn, and is
 // handed in exactly once, to commit, give up or the note.
 ghost use mathlib.Core.Bool.{true};
 ghost use mathlib.Core.Path.{_≡_};

@@ -10,7 +10,7 @@ pub returns : need.returns
 unfolding run-does run-on
 returns g c =
     let found = rows (c .args .steps .now) (c .args .given .now) (c .args .answers .now) (c .args .got .now) in
-    let whole = c .run .ensures .call ∙ ap (λ (s : State (g .D·Cell .Denot)). ran (called (g .Cell·Cell .empty)) s found) (c .make-site .ensures) in
+    let whole = c .run .ensures .call ∙ ap (λ (s : State (g .D·Cell .Denot)). ran (called (g .Cell·Cell .empty)) s found) (c .make-site .ensures .does) in
     record {
       answers = ap (λ (w : Running (g .D·Cell .Denot)). w .answers) whole;
       got = ap (λ (w : Running (g .D·Cell .Denot)). w .got) whole;

@@ -97,7 +97,7 @@ impl Table {
         self.clients[p].journal
     }
 
-    // Client k's note, a slip that a run has put aside. (A slip is the paper that a begun flush gives out.)
+    // Client k's note, a slip that a run has put aside. (A slip is the token that a begun flush gives out.)
     pub(super) fn noted(&self, k: u32) -> Option<Flush>
         ensures { λ r. ⌜ r ≡ note-of (records (now (self .entry))) k ⌝ }
     {
