@@ -1,14 +1,18 @@
 // A day of one site over sectors: two clients, a power cut between a mark and its disk cell, one after the disk
-// cell was written, restarts, a hand-over, and a stale copy that is fetched again. Every step is printed.
+// cell was written, restarts, a hand-over, a stale copy that is fetched again; and two sites that answer alike.
+// Every step is printed.
 use bank::End;
 use bank::EndBank;
 use bank::PairBank;
 use records::fault::SiteFault;
+use rules::answer::Answer;
+use rules::step::Step;
 use site::Calls;
 use site::Returned;
 use site::Site;
 use site::SiteCalls;
 use site::Slip;
+use site::run_both;
 use std::io;
 use std::marker::PhantomData;
 use store::Fuse;
@@ -20,6 +24,8 @@ use store::Row;
 use store::RowStore;
 use store::Sector;
 use store::SectorCell;
+use store::Window;
+use store::WindowStore;
 
 // Says what was done and how it ended. (What cannot be printed is lost; the day goes on.)
 fn say(rt: &impl Print, client: u32, what: &str, cell: u32, number: u8) {
@@ -192,6 +198,90 @@ fn afternoon(rt: &impl Print, site: &mut impl Calls<Cell = Sector>) {
     close(rt, site, 1);
 }
 
+// Runs the same steps on two sites, and says of each step what both answered.
+fn twins<S: Calls<Cell = u32>, T: Calls<Cell = u32>>(rt: &impl Print, one: &mut S, other: &mut T) {
+    title(
+        rt,
+        "Night: two sites over different stores take the same steps",
+    );
+    let steps = [
+        step(1, 1, 0),
+        step(3, 1, 2),
+        step(4, 1, 2),
+        step(5, 1, 0),
+        step(2, 1, 2),
+        step(7, 1, 0),
+    ];
+    let given = [0, 42, 0, 0, 0, 0];
+    let mut answers = [NO_ANSWER; 6];
+    let mut answers2 = [NO_ANSWER; 6];
+    let mut got = [0; 6];
+    let mut got2 = [0; 6];
+    let (first, second) = run_both(
+        one,
+        other,
+        &steps,
+        &given,
+        &mut answers,
+        &mut got,
+        &mut answers2,
+        &mut got2,
+    );
+    let _ = println!(rt, "  the runs: {} and {}", ended(first), ended(second));
+    for i in 0..6 {
+        let call = steps[i].call;
+        let number = answers[i].number;
+        let number2 = answers2[i].number;
+        let cell = got[i];
+        let cell2 = got2[i];
+        let _ = println!(
+            rt,
+            "  call {call}: answers {number} and {number2}, cells got {cell} and {cell2}"
+        );
+    }
+}
+
+fn step(call: u32, client: u32, cell: u32) -> Step {
+    Step {
+        call,
+        client,
+        cell,
+        first: 0,
+        second: 0,
+    }
+}
+
+const NO_ANSWER: Answer = Answer {
+    number: 0,
+    place: 0,
+    value: 0,
+    source: 0,
+    fault: None,
+};
+
+// A site over rows, and one over windows and fuses, that start alike: 3 cells, one client.
+fn night(rt: &impl Print) {
+    let mut disk = [7; 3];
+    let mut marks = [0; 3];
+    let mut local = [0; 4];
+    let bank = (Row::new(&mut local), End { cell: PhantomData });
+    let mut one = Site::make(Row::new(&mut disk), Row::new(&mut marks), bank, 0);
+    let mut wide = [7; 5];
+    let mut marks2 = [0; 3];
+    let mut local2 = [0; 6];
+    let bank2 = (
+        Window::new(Row::new(&mut local2), 1, 4),
+        End { cell: PhantomData },
+    );
+    let mut other = Site::make(
+        Window::new(Row::new(&mut wide), 2, 3),
+        Row::new(&mut marks2),
+        bank2,
+        0,
+    );
+    twins(rt, &mut one, &mut other);
+}
+
 fn main(rt: LibcRuntime) -> io::Result<()> {
     let mut disk = [1u8; 2048];
     let mut marks = [0u32; 4];
@@ -210,5 +300,6 @@ fn main(rt: LibcRuntime) -> io::Result<()> {
     );
     morning(&rt, &mut site);
     afternoon(&rt, &mut site);
+    night(&rt);
     Ok(())
 }
