@@ -1,4 +1,6 @@
 // Backs up part of a disk image while both ends lose power, and prints all that it did.
+#![tactic(auto)]
+
 use std::io;
 use store::{Cell, Fault, Fuse, Image, Row, Sector, Store, Window};
 use transfer::{Side, Stop, copy, copy_cell};

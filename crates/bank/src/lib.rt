@@ -1,4 +1,6 @@
 // The local stores of all clients: nested pairs of stores with one kind of cell, told by client number from 1.
+#![tactic(auto)]
+
 ghost use Rattle.std.specs.Prelude.{◌≡◌, min, List, [], ◌∷◌, length};
 ghost use Rattle.store.specs.Lengths.{all_long};
 ghost use Rattle.store.specs.Stores.{Stored, stored, read_answer, write_answer, after_read, after_write, after_renew};

@@ -1,4 +1,6 @@
 // The worked cases of the rules, and three faults that the theorem finds.
+#![tactic(auto)]
+
 ghost use Rattle.std.specs.Prelude.{◌≡◌, length};
 ghost use Rattle.cases.specs.Cases.{cases, Worked};
 ghost use Rattle.cases.specs.Readings.{readings, ReadSo};

@@ -1,6 +1,8 @@
 // A day of one site over sectors: two clients, a power cut between a mark and its disk cell, one after the disk
 // cell was written, restarts, a hand-over, a stale copy that is fetched again; and two sites that answer alike.
 // Every step is printed.
+#![tactic(auto)]
+
 use bank::{Bank, End};
 use records::fault::SiteFault;
 use rules::answer::Answer;

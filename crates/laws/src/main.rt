@@ -1,4 +1,6 @@
 // Prints in plain words what is proved of the rules, each time after the call whose contract states it.
+#![tactic(auto)]
+
 use std::io;
 
 fn main(rt: HostRuntime) -> io::Result<()> {

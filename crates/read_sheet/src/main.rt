@@ -1,5 +1,7 @@
 // Reads a step sheet from standard input, at most 64 lines, and says what each line holds.
 // A refused line is printed in columns, and ends the output.
+#![tactic(auto)]
+
 use rules::step::Step;
 use sheet::{OutputLine, Reader};
 use std::io;

@@ -1,4 +1,6 @@
 // The rules of a site: what its records, calls, runs and answers are, and what holds of them.
+#![tactic(auto)]
+
 ghost use Rattle.rules.specs.Claim.{StaysConsistent};
 ghost use Rattle.rules.specs.Carry.{Carries};
 

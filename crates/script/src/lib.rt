@@ -1,4 +1,6 @@
 // From a sheet's bytes to the steps of a run, and from a run's answers to the printed bytes.
+#![tactic(auto)]
+
 mod printing;
 mod reading;
 

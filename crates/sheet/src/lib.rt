@@ -1,4 +1,6 @@
 // The step sheet: lines of five decimal numbers in fixed columns.
+#![tactic(auto)]
+
 mod columns;
 mod fields;
 mod lines;

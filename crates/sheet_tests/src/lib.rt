@@ -1,4 +1,6 @@
 // Sheets and output lines by example.
+#![tactic(auto)]
+
 #[cfg(test)]
 mod tests {
     use sheet::{Field, OutputLine, Reader, put_number};

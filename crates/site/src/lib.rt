@@ -1,4 +1,6 @@
 // A site: one reference disk at a server, and the clients that cache it.
+#![tactic(auto)]
+
 mod alike;
 mod calls;
 mod reply;

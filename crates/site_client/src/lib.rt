@@ -1,4 +1,6 @@
 // What a caller may conclude from the promises of a site's calls alone, and how it handles slips.
+#![tactic(auto)]
+
 ghost use Rattle.std.specs.Prelude.{◌≡◌};
 ghost use Rattle.rules.specs.Site.{outcome};
 ghost use Rattle.site_client.specs.Echo.{Echoes};

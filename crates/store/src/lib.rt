@@ -1,5 +1,7 @@
 // Stores of cells, whatever they stand on: a row of lent cells, an image on lent bytes, a window and a
 // fuse over any store, held by value or by `&mut`.
+#![tactic(auto)]
+
 mod cell;
 mod fuse;
 mod image;

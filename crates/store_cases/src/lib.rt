@@ -1,5 +1,7 @@
 // What others build on the stores: cases with their outcome in the contract, a kind of cell and a store
 // of one's own.
+#![tactic(auto)]
+
 mod cases;
 mod pixel;
 mod single;

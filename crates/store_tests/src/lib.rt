@@ -1,4 +1,6 @@
 // Stores at their edges, for sectors, numbers and a kind of cell of one's own.
+#![tactic(auto)]
+
 #[cfg(test)]
 mod tests {
     use store::{Cell, Fault, Fuse, Image, Row, Store, Window};

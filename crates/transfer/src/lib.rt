@@ -1,4 +1,6 @@
 // Work between any two stores with one kind of cell.
+#![tactic(auto)]
+
 ghost use Rattle.std.specs.Prelude.{◌≡◌, ◌-◌, max, length};
 ghost use Rattle.store.specs.Stores.{stored};
 ghost use Rattle.transfer.specs.Copies.{moved, copied_cell, copied_from, reached, Overlaid};

@@ -1,4 +1,6 @@
 // Runs a step sheet from standard input on a site of its own, and prints a line for each step.
+#![tactic(auto)]
+
 use play::play;
 use std::io::{Read, Write};
 
