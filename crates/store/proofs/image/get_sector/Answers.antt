@@ -14,8 +14,8 @@ pub returns : goal.returns
 returns c =
     let bs = c.args.bytes.now in
     let i = c.args.i in
-    let cell = c.copy-from-slice.new.self in
+    let cell = c.copy_from_slice.new.self in
     let n : 512 * i + 512 - 512 * i ≡ 512 = omega arith in
     let read : cell ≡ get_or (blocks 512 bs) i cell =
-    c.copy-from-slice.ensures.after ∙ ap (λ (k : ℕ). take k (drop (512 * i) bs)) n ∙ sym (get_or_blocks 512 bs i cell c.if-i-bytes.false) in
+    c.copy_from_slice.ensures.after ∙ ap (λ (k : ℕ). take k (drop (512 * i) bs)) n ∙ sym (get_or_blocks 512 bs i cell c.if-i-bytes.false) in
     ap (λ (x : List ℕ). Ok x) read ∙ sym (read_inside (blocks 512 bs) Endless i cell (omega (arith, length_blocks 512 bs)))

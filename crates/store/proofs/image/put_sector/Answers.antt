@@ -14,15 +14,15 @@ pub returns : goal.returns
 returns c =
     let bs = c.args.bytes.now in
     let i = c.args.i in
-    let cell = c.copy-from-slice.new.self in
+    let cell = c.copy_from_slice.new.self in
     let n : 512 * i + 512 - 512 * i ≡ 512 = omega arith in
     let whole : length cell ≡ 512 =
-    c.copy-from-slice.ensures.len ∙ simp (length-take, length-drop) (omega (arith, block_within 512 bs i c.if-i-bytes.false)) in
+    c.copy_from_slice.ensures.len ∙ simp (length-take, length-drop) (omega (arith, block_within 512 bs i c.if-i-bytes.false)) in
     let inside : i < length (blocks 512 bs) = omega (arith, length_blocks 512 bs) in
     let written : blocks 512 (put_mid (512 * i) (512 * i + 512 - 512 * i) bs cell) ≡ set (blocks 512 bs) i c.args.v =
     ap (λ (k : ℕ). blocks 512 (put_mid (512 * i) k bs cell)) n
     ∙ put_blocks 512 bs i cell c.if-i-bytes.false whole
-    ∙ ap (set (blocks 512 bs) i) c.copy-from-slice.ensures.after in
+    ∙ ap (set (blocks 512 bs) i) c.copy_from_slice.ensures.after in
     record {
       answer = sym (write_endless (blocks 512 bs) i inside);
       after = ap endless written ∙ sym (written_endless (blocks 512 bs) i c.args.v inside);

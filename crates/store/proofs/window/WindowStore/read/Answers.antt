@@ -12,14 +12,14 @@ returns-in-Some g c =
     let cs = g.S.Store.cells c.args.self.now.below in
     let life = g.S.Store.life c.args.self.now.below in
     let rest = g.S.Store.rest c.args.self.now.below in
-    let z = g.Cell-as-Cell.empty in
+    let z = g.S.Cell.Cell.empty in
     let found = found_below f n cs c.args.i c.in-Some.at c.in-Some.ensures in
     record {
       answer = c.read.ensures.answer ∙ ap (read_answer (stored cs life)) found.1 ∙ read_through f n cs life c.args.i found.0 z;
       after = ap (seen f n) (c.read.ensures.after ∙ ap (after_read (stored cs life)) found.1) ∙ seen_read f n cs life c.args.i found.0 z;
       kept =
           ap (around f n (g.S.Store.cells c.read.new.self)) c.read.ensures.kept
-          ∙ ap (λ (s : Stored g.S-as-Cell.Denot). around f n s.cells rest) c.read.ensures.after
+          ∙ ap (λ (s : Stored g.row.S-Cell.Denot). around f n s.cells rest) c.read.ensures.after
           ∙ around_read f n (stored cs life) c.in-Some.at rest;
     }
 

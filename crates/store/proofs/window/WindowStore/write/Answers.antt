@@ -19,7 +19,7 @@ returns-in-Some g c =
       after = ap (seen f n) after ∙ seen_write f n cs life c.args.i found.0 v;
       kept =
           ap (around f n (g.S.Store.cells c.write.new.self)) c.write.ensures.kept
-          ∙ ap (λ (s : Stored g.S-as-Cell.Denot). around f n s.cells rest) after
+          ∙ ap (λ (s : Stored g.row.S-Cell.Denot). around f n s.cells rest) after
           ∙ around_write f n (stored cs life) c.args.i v rest found.0;
     }
 
