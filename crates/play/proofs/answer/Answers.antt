@@ -10,12 +10,12 @@ both xs xs' ys ys' p q = rw (p, q) refl
 
 pub returns : goal.returns
 returns c =
-    let rs = c.run-steps.new.answers in
-    let gs = c.run-steps.new.got in
+    let rs = c.run_steps.new.answers in
+    let gs = c.run_steps.new.got in
     both _ _ _ _
-    (take_at rs _ _ (c.run-steps.auto.answers ∙ c.deref-mut.ensures.len) ∙ c.run-steps.ensures.answers)
-    (take_at gs _ _ (c.run-steps.auto.got ∙ c.deref-mut-2.ensures.len) ∙ c.run-steps.ensures.got)
+    (take_at rs _ _ (c.run_steps.auto.answers ∙ c.deref-mut.ensures.len) ∙ c.run_steps.ensures.answers)
+    (take_at gs _ _ (c.run_steps.auto.got ∙ c.deref-mut-2.ensures.len) ∙ c.run_steps.ensures.got)
     ∙ answers_are c.args.steps.now c.deref.result.now c.deref-mut-2.result.now c.deref-mut.result.now
-    (c.deref.ensures.value ∙ c.in-ok-given.ensures)
-    (c.deref-mut.ensures.value ∙ c.in-ok-answers.ensures)
-    (c.deref-mut-2.ensures.value ∙ c.in-ok-got.ensures)
+    (c.deref.ensures.value ∙ c.in_ok-given.ensures)
+    (c.deref-mut.ensures.value ∙ c.in_ok-answers.ensures)
+    (c.deref-mut-2.ensures.value ∙ c.in_ok-got.ensures)

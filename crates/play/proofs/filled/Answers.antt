@@ -9,6 +9,6 @@ one_more {X} (suc n) x =
 
 pub loop-i-preserved : goal.loop-i-preserved
 loop-i-preserved g c =
-    c.in-ok-push.ensures.items
+    c.in_ok-push.ensures.items
     ∙ ap (λ (xs : List g.row.T.Denot). xs ++ (c.args.x ∷ [])) c.loop-i.invariant
     ∙ one_more c.loop-i.-i c.args.x

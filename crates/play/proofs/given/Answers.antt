@@ -12,7 +12,7 @@ loop-step-preserved c =
     let steps = c.args.steps.now in
     let i = c.loop-step.step-index in
     let left : i < length steps = omega arith in
-    c.in-ok-push.ensures.items
+    c.in_ok-push.ensures.items
     ∙ ap (λ (xs : List ℕ). xs ++ ((get_or steps i no_step).first ∷ [])) c.loop-step.invariant
     ∙ sym (map_more (λ (p : Step). p.first) steps i no_step left)
 

@@ -10,11 +10,11 @@ use Rattle.play.proofs.play.Goals as goal
 
 pub returns : goal.returns
 returns c =
-    let script = c.in-ok-script.script in
-    let left = c.in-ok-left.left in
+    let script = c.in_ok-script.script in
+    let left = c.in_ok-left.left in
     let said =
-    c.in-ok-left.ensures ∙ ap answers_to c.deref.ensures.value in
-    let whole = all_printed c.args.sheet.now (vec_items script.steps) script.last (vec_items left.answers) (vec_items left.got) c.in-ok-script.ensures said in
+    c.in_ok-left.ensures ∙ ap answers_to c.deref.ensures.value in
+    let whole = all_printed c.args.sheet.now (vec_items script.steps) script.last (vec_items left.answers) (vec_items left.got) c.in_ok-script.ensures said in
     let rows =
     ap (λ (rs : List Answer). answered 0 rs c.deref-3.result.now ++ ended script.last) c.deref-2.ensures.value
     ∙ ap (λ (gs : List ℕ). answered 0 (vec_items left.answers) gs ++ ended script.last) c.deref-3.ensures.value in

@@ -15,6 +15,6 @@ returns c =
     (zeros_are 9 _ _ c.fused-3.ensures.cells c.fused-3.ensures.left)
     found in
     record {
-      answers = c.run-on.ensures.answers ∙ ap (λ (w : Running ℕ). w.answers) whole;
-      got = c.run-on.ensures.got ∙ ap (λ (w : Running ℕ). w.got) whole;
+      answers = c.run_on.ensures.answers ∙ ap (λ (w : Running ℕ). w.answers) whole;
+      got = c.run_on.ensures.got ∙ ap (λ (w : Running ℕ). w.got) whole;
     }

@@ -11,9 +11,9 @@ loop-i-preserved c =
     let gs = c.args.got.now in
     let i = c.loop-i.i in
     let xs = vec_items c.loop-i.out in
-    let line = c.answer_line.ensures ∙ ap (λ (n : ℕ). answer_line n (get_or rs i (accepted 0 0 0)) (get_or gs i 0)) c.step-number.ensures in
-    let pushed = c.in-ok-push-line.ensures ∙ ap (λ (l : OutputLine). xs ++ line_bytes l) line in
-    one_more rs gs i xs (vec_items c.push-line.new.out) (accepted 0 0 0) 0 (omega arith) (omega arith) pushed ∙ c.loop-i.invariant
+    let line = c.answer_line.ensures ∙ ap (λ (n : ℕ). answer_line n (get_or rs i (accepted 0 0 0)) (get_or gs i 0)) c.step_number.ensures in
+    let pushed = c.in_ok-push_line.ensures ∙ ap (λ (l : OutputLine). xs ++ line_bytes l) line in
+    one_more rs gs i xs (vec_items c.push_line.new.out) (accepted 0 0 0) 0 (omega arith) (omega arith) pushed ∙ c.loop-i.invariant
 
 pub returns : goal.returns
 returns c = all_printed c.args.answers.now c.args.got.now c.loop-i.i (vec_items c.loop-i.out) (omega arith) ∙ c.loop-i.invariant

@@ -2,10 +2,10 @@ use Rattle.std.proofs.Common.{rules}
 use Rattle.script.specs.Scripts.{line_bytes}
 use Rattle.script.proofs.printing.push_line.Goals as goal
 
-pub returns-in-ok-extend-from-slice : goal.returns-in-ok-extend-from-slice
+pub returns-in_ok-extend_from_slice : goal.returns-in_ok-extend_from_slice
 unfolding line_bytes
-returns-in-ok-extend-from-slice c = search rules
+returns-in_ok-extend_from_slice c = search rules
 
-pub returns-else-is-ok : goal.returns-else-is-ok
+pub returns-else-is_ok : goal.returns-else-is_ok
 unfolding line_bytes
-returns-else-is-ok c = search rules
+returns-else-is_ok c = search rules

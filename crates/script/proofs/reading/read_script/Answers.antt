@@ -34,7 +34,7 @@ loop-i-preserved c =
     let e = ap (λ (o : Option Line). line_meant (Ok o)) (sym line) ∙ said.line ∙ ap (λ (s : List ℕ). line_of s place) c.loop-i.invariant.1 in
     let step = c.step.ensures in
     let moved = ap (λ (p : ℕ). onto (xs ++ (c.step.result ∷ [])) (read_from (64 - (i + 1)) sheet p)) (said.place ∙ ap (λ (o : Option Line). place_after (line_meant (Ok o)) place) line) in
-    let pushed = ap (λ (ys : List Step). onto ys (read_from (64 - (i + 1)) sheet c.next-line.new.self.place)) c.in-ok-push.ensures.items in (
+    let pushed = ap (λ (ys : List Step). onto ys (read_from (64 - (i + 1)) sheet c.next_line.new.self.place)) c.in_ok-push.ensures.items in (
       pushed ∙ moved ∙ goes_on sheet i place _ xs (omega arith) e c.step.result (λ rest. ap (λ (x : Step). onto (x ∷ []) rest) (sym step)) ∙ c.loop-i.invariant.0,
       said.sheet ∙ c.loop-i.invariant.1,
     )

@@ -7,6 +7,6 @@ pub returns : goal.returns
 returns c = record {
   fits = sym (le-leb (length c.args.text.now) (length c.args.out.now) c.if-text-out.false);
   bytes =
-      put_right c.args.out.now c.args.text.now c.fill.new.self c.copy-from-slice.new.self _
-      c.if-text-out.false (c.fill.ensures.after (λ y e. e)) c.copy-from-slice.ensures.after;
+      put_right c.args.out.now c.args.text.now c.fill.new.self c.copy_from_slice.new.self _
+      c.if-text-out.false (c.fill.ensures.after (λ y e. e)) c.copy_from_slice.ensures.after;
 }

@@ -11,8 +11,8 @@ loop-rest-init c = (
   omega arith,
 )
 
-pub overflow-sub-i : goal.overflow-sub-i
-overflow-sub-i c =
+pub overflow_sub-i : goal.overflow_sub-i
+overflow_sub-i c =
     room c.loop-rest.out c.loop-rest.i c.loop-rest.rest c.args.n
     c.loop-rest.invariant.2 c.loop-rest.invariant.1 (omega arith) c.loop-rest.invariant.3 c.loop-rest.invariant.0
 

@@ -6,10 +6,10 @@ pub returns-in-Err : goal.returns-in-Err
 unfolding in_columns
 returns-in-Err c = search rules
 
-pub returns-then-is-empty : goal.returns-then-is-empty
+pub returns-then-is_empty : goal.returns-then-is_empty
 unfolding in_columns
-returns-then-is-empty c = search rules
+returns-then-is_empty c = search rules
 
-pub returns-else-is-empty : goal.returns-else-is-empty
+pub returns-else-is_empty : goal.returns-else-is_empty
 unfolding in_columns
-returns-else-is-empty c = search rules
+returns-else-is_empty c = search rules

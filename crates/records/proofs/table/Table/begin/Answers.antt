@@ -14,5 +14,5 @@ returns c =
     twice (λ x. with_journal (f x) (Some c.args.i)) (λ x. with_turn x c.args.n) t _ _ c.args.k
     (twice f (λ x. with_journal x (Some c.args.i)) t _ _ c.args.k
     (c.put.ensures ∙ ap (with_cell t c.args.k c.args.i) c.react.ensures.left)
-    c.set-journal.ensures)
-    c.set-turn.ensures
+    c.set_journal.ensures)
+    c.set_turn.ensures

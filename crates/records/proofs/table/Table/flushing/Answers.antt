@@ -7,5 +7,5 @@ returns-in-None c = flushing_out c.args.self.now c.args.k c.in-None.ensures c.ar
 
 pub returns-in-Some : goal.returns-in-Some
 returns-in-Some c =
-    c.is-flushing.ensures
+    c.is_flushing.ensures
     ∙ flushing_in c.args.self.now c.args.k c.in-Some.p c.in-Some.ensures c.args.i c.args.turn

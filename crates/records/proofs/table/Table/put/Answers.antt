@@ -3,8 +3,8 @@ use Rattle.records.specs.Records.{with_cells}
 use Rattle.records.proofs.Tables.{client, change_out, change_in, change_nothing, write_past}
 use Rattle.records.proofs.table.Table.put.Goals as goal
 
-pub returns-in-default : goal.returns-in-default
-returns-in-default c = change_out c.args.self.now c.args.k c.in-default.ensures (λ x. with_cells x (set x.cells c.args.i c.args.r))
+pub returns-in_default : goal.returns-in_default
+returns-in_default c = change_out c.args.self.now c.args.k c.in_default.ensures (λ x. with_cells x (set x.cells c.args.i c.args.r))
 
 pub returns-then-i-lt1024 : goal.returns-then-i-lt1024
 returns-then-i-lt1024 c = change_in c.args.self.now c.args.k c.in-Some.p c.in-Some.ensures (λ x. with_cells x (set x.cells c.args.i c.args.r))

@@ -11,5 +11,5 @@ returns-in-Some c =
     ∙ ap (with_cell t c.args.k c.args.j) c.react.ensures.left
     ∙ cell_restored t c.args.k c.args.j c.in-Some.r c.in-Some.ensures
 
-pub returns-in-default : goal.returns-in-default
-returns-in-default c = cell_missing (records c.args.self.now) c.args.k c.args.j c.in-default.ensures
+pub returns-in_default : goal.returns-in_default
+returns-in_default c = cell_missing (records c.args.self.now) c.args.k c.args.j c.in_default.ensures

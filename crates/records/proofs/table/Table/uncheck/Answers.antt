@@ -5,8 +5,8 @@ use Rattle.records.proofs.InPlace.{half_none, half_more, half_all}
 use Rattle.records.proofs.Tables.{change_out}
 use Rattle.records.proofs.table.Table.uncheck.Goals as goal
 
-pub returns-in-default : goal.returns-in-default
-returns-in-default c = change_out c.args.self.now c.args.k c.in-default.ensures unchecked_client
+pub returns-in_default : goal.returns-in_default
+returns-in_default c = change_out c.args.self.now c.args.k c.in_default.ensures unchecked_client
 
 pub loop-i-init : goal.loop-i-init
 loop-i-init c = (half_none c.args.self.now c.args.k c.in-Some.p c.in-Some.ensures, λ h. absurd (omega arith))

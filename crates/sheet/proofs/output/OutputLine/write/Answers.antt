@@ -6,14 +6,14 @@ pub returns : goal.returns
 returns c = record {
   fits =
       all_fit c.args.self.now _ _ _ _ _
-      c.in-ok-put.ensures.fits c.in-ok-put-2.ensures.fits c.in-ok-put-3.ensures.fits
-      c.in-ok-put-4.ensures.fits c.in-ok-put-5.ensures.fits;
+      c.in_ok-put.ensures.fits c.in_ok-put-2.ensures.fits c.in_ok-put-3.ensures.fits
+      c.in_ok-put-4.ensures.fits c.in_ok-put-5.ensures.fits;
   bytes = λ _. whole_line c.args.self.now c.args.line.now
       c.put.new.line c.put-2.new.line c.put-3.new.line c.put-4.new.line c.put-5.new.line
       _ _ _ _ _ (omega arith)
-      c.in-ok-put.ensures.fits c.in-ok-put.ensures.bytes
-      c.in-ok-put-2.ensures.fits c.in-ok-put-2.ensures.bytes
-      c.in-ok-put-3.ensures.fits c.in-ok-put-3.ensures.bytes
-      c.in-ok-put-4.ensures.fits c.in-ok-put-4.ensures.bytes
-      c.in-ok-put-5.ensures.fits c.in-ok-put-5.ensures.bytes;
+      c.in_ok-put.ensures.fits c.in_ok-put.ensures.bytes
+      c.in_ok-put-2.ensures.fits c.in_ok-put-2.ensures.bytes
+      c.in_ok-put-3.ensures.fits c.in_ok-put-3.ensures.bytes
+      c.in_ok-put-4.ensures.fits c.in_ok-put-4.ensures.bytes
+      c.in_ok-put-5.ensures.fits c.in_ok-put-5.ensures.bytes;
 }

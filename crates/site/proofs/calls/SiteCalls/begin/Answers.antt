@@ -4,4 +4,4 @@ use Rattle.site.proofs.calls.SiteCalls.begin.Goals as goal
 
 pub returns : goal.returns
 unfolding begin_does
-returns g c = record { call = c.do-begin.ensures.does; upheld = begin_upheld _ _ _ _ _ _ c.do-begin.ensures.does; kept = c.do-begin.ensures.kept }
+returns g c = record { call = c.do_begin.ensures.does; upheld = begin_upheld _ _ _ _ _ _ c.do_begin.ensures.does; kept = c.do_begin.ensures.kept }

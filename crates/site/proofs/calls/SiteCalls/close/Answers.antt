@@ -4,4 +4,4 @@ use Rattle.site.proofs.calls.SiteCalls.close.Goals as goal
 
 pub returns : goal.returns
 unfolding close_does
-returns g c = record { call = c.do-close.ensures.does; upheld = close_carried _ _ _ _ _ c.do-close.ensures.does; kept = c.do-close.ensures.kept }
+returns g c = record { call = c.do_close.ensures.does; upheld = close_carried _ _ _ _ _ c.do_close.ensures.does; kept = c.do_close.ensures.kept }

@@ -4,4 +4,4 @@ use Rattle.site.proofs.calls.SiteCalls.commit.Goals as goal
 
 pub returns : goal.returns
 unfolding commit_does
-returns g c = record { call = c.do-commit.ensures.does; upheld = commit_upheld _ _ _ _ _ c.do-commit.ensures.does; kept = c.do-commit.ensures.kept }
+returns g c = record { call = c.do_commit.ensures.does; upheld = commit_upheld _ _ _ _ _ c.do_commit.ensures.does; kept = c.do_commit.ensures.kept }

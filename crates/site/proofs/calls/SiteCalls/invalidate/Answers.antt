@@ -4,4 +4,4 @@ use Rattle.site.proofs.calls.SiteCalls.invalidate.Goals as goal
 
 pub returns : goal.returns
 unfolding invalidate_does
-returns g c = record { call = c.do-invalidate.ensures.does; upheld = invalidate_carried _ _ _ _ _ c.do-invalidate.ensures.does; kept = c.do-invalidate.ensures.kept }
+returns g c = record { call = c.do_invalidate.ensures.does; upheld = invalidate_carried _ _ _ _ _ c.do_invalidate.ensures.does; kept = c.do_invalidate.ensures.kept }

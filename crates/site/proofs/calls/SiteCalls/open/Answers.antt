@@ -4,4 +4,4 @@ use Rattle.site.proofs.calls.SiteCalls.open.Goals as goal
 
 pub returns : goal.returns
 unfolding open_does
-returns g c = record { call = c.do-open.ensures.does; upheld = open_carried _ _ _ _ _ c.do-open.ensures.does; kept = c.do-open.ensures.kept }
+returns g c = record { call = c.do_open.ensures.does; upheld = open_carried _ _ _ _ _ c.do_open.ensures.does; kept = c.do_open.ensures.kept }

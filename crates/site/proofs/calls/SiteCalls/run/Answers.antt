@@ -5,8 +5,8 @@ use Rattle.site.proofs.calls.SiteCalls.run.Goals as goal
 pub returns : goal.returns
 unfolding run_does
 returns g c = record {
-  answer = c.do-run.ensures.answer;
-  call = c.do-run.ensures.left;
-  kept = c.do-run.ensures.kept;
-  upheld = continues_run _ _ _ _ _ _ c.do-run.ensures.left;
+  answer = c.do_run.ensures.answer;
+  call = c.do_run.ensures.left;
+  kept = c.do_run.ensures.kept;
+  upheld = continues_run _ _ _ _ _ _ c.do_run.ensures.left;
 }

@@ -4,4 +4,4 @@ use Rattle.site.proofs.calls.SiteCalls.write.Goals as goal
 
 pub returns : goal.returns
 unfolding write_does
-returns g c = record { call = c.do-write.ensures.does; upheld = write_carried _ _ _ _ _ _ _ c.do-write.ensures.does; kept = c.do-write.ensures.kept }
+returns g c = record { call = c.do_write.ensures.does; upheld = write_carried _ _ _ _ _ _ _ c.do_write.ensures.does; kept = c.do_write.ensures.kept }

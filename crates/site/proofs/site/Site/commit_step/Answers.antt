@@ -11,4 +11,4 @@ returns-in-Ok g c = record {
 }
 
 pub returns-in-Err : goal.returns-in-Err
-returns-in-Err g c = record { does = commit_step_none _ _ _ _ _ c.in-Err.ensures c.no-reply.ensures; kept = refl }
+returns-in-Err g c = record { does = commit_step_none _ _ _ _ _ c.in-Err.ensures c.no_reply.ensures; kept = refl }

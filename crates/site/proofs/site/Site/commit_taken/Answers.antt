@@ -8,11 +8,11 @@ use Rattle.site.proofs.Stepping.{commit_noted, same_slip}
 use Rattle.site.proofs.site.Site.commit_taken.Goals as goal
 
 pub returns-in-Ok : goal.returns-in-Ok
-returns-in-Ok g c = record { does = commit_noted g.row.D-Cell-Cell.empty (site_state g.D.Store g.M.Store g.B.Bank c.args.self.now) (site_state g.D.Store g.M.Store g.B.Bank c.do-commit.new.self) c.args.k c.args.slip _ c.in-Ok.ensures.does; kept = c.in-Ok.ensures.kept }
+returns-in-Ok g c = record { does = commit_noted g.row.D-Cell-Cell.empty (site_state g.D.Store g.M.Store g.B.Bank c.args.self.now) (site_state g.D.Store g.M.Store g.B.Bank c.do_commit.new.self) c.args.k c.args.slip _ c.in-Ok.ensures.does; kept = c.in-Ok.ensures.kept }
 
 pub returns-in-Err : goal.returns-in-Err
 returns-in-Err g c =
-    let left = (site_state g.D.Store g.M.Store g.B.Bank c.do-commit.new.self) in
+    let left = (site_state g.D.Store g.M.Store g.B.Bank c.do_commit.new.self) in
     record {
       does =
           ap (λ s. outcome s (Err c.in-Err.field-0.fault)) c.note.ensures.does

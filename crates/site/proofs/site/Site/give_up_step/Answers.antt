@@ -6,9 +6,9 @@ use Rattle.site.proofs.site.Site.give_up_step.Goals as goal
 
 pub returns-in-Ok : goal.returns-in-Ok
 returns-in-Ok g c = record {
-  does = give_up_step_took _ _ _ _ _ _ _ _ _ c.in-Ok.ensures (ap (with_table (site_state g.D.Store g.M.Store g.B.Bank c.args.self.now)) c.note.ensures) c.new.ensures c.do-give-up.ensures.does c.plain_reply.ensures;
-  kept = c.do-give-up.ensures.kept;
+  does = give_up_step_took _ _ _ _ _ _ _ _ _ c.in-Ok.ensures (ap (with_table (site_state g.D.Store g.M.Store g.B.Bank c.args.self.now)) c.note.ensures) c.new.ensures c.do_give_up.ensures.does c.plain_reply.ensures;
+  kept = c.do_give_up.ensures.kept;
 }
 
 pub returns-in-Err : goal.returns-in-Err
-returns-in-Err g c = record { does = give_up_step_none _ _ _ _ _ c.in-Err.ensures c.no-reply.ensures; kept = refl }
+returns-in-Err g c = record { does = give_up_step_none _ _ _ _ _ c.in-Err.ensures c.no_reply.ensures; kept = refl }

@@ -3,12 +3,12 @@ use Rattle.site.specs.Means.{site_state}
 use Rattle.site.proofs.Sweeping.{sweep_none, sweep_once, one_if_le}
 use Rattle.site.proofs.site.Site.sweep_all.Goals as goal
 
-pub overflow-add-value : goal.overflow-add-value
-overflow-add-value g c = omega (arith, one_if_le c.in-Ok.forgot, c.one-if-value.ensures)
+pub overflow_add-value : goal.overflow_add-value
+overflow_add-value g c = omega (arith, one_if_le c.in-Ok.forgot, c.one_if-value.ensures)
 
 pub loop-i-preserved : goal.loop-i-preserved
 loop-i-preserved g c = (
-  omega (arith, one_if_le c.in-Ok.forgot, c.one-if-value.ensures),
+  omega (arith, one_if_le c.in-Ok.forgot, c.one_if-value.ensures),
   (let p : c.args.m - (c.loop-i.i + 1) ≡ c.args.m - c.loop-i.i - 1 = omega arith in
       let e =
       sweep_once c.args.k (c.args.m - c.loop-i.i) (site_state g.D.Store g.M.Store g.B.Bank c.loop-i.self) (site_state g.D.Store g.M.Store g.B.Bank c.sweep_cell.new.self) (Ok c.in-Ok.forgot) c.loop-i.i c.loop-i.value (omega arith)
