@@ -13,7 +13,7 @@ returns-in-None c =
     let sheet = c.args.sheet.now in
     let place = c.loop-i.reader.place in
     let e = ap (λ (o : Option Line). line_meant (Ok o)) (sym c.in-None.is) ∙ c.in-Ok.ensures.line ∙ ap (λ (s : List ℕ). line_of s place) c.loop-i.invariant.1 in
-    stops sheet c.loop-i.-i place _ (vec_items c.loop-i.steps) (omega arith) e None (λ rest. refl) ∙ c.loop-i.invariant.0
+    stops sheet c.loop-i._i place _ (vec_items c.loop-i.steps) (omega arith) e None (λ rest. refl) ∙ c.loop-i.invariant.0
 
 pub returns-in-Err : goal.returns-in-Err
 returns-in-Err c =
@@ -21,12 +21,12 @@ returns-in-Err c =
     let place = c.loop-i.reader.place in
     let e = c.in-Err.ensures.line ∙ ap (λ (s : List ℕ). line_of s place) c.loop-i.invariant.1 in
     let line = c.output.ensures in
-    stops sheet c.loop-i.-i place _ (vec_items c.loop-i.steps) (omega arith) e (Some c.output.result) (λ rest. ap (λ (l : OutputLine). scripted [] (Some l)) (sym line)) ∙ c.loop-i.invariant.0
+    stops sheet c.loop-i._i place _ (vec_items c.loop-i.steps) (omega arith) e (Some c.output.result) (λ rest. ap (λ (l : OutputLine). scripted [] (Some l)) (sym line)) ∙ c.loop-i.invariant.0
 
 pub loop-i-preserved : goal.loop-i-preserved
 loop-i-preserved c =
     let sheet = c.args.sheet.now in
-    let i = c.loop-i.-i in
+    let i = c.loop-i._i in
     let place = c.loop-i.reader.place in
     let xs = vec_items c.loop-i.steps in
     let said = c.in-Ok.ensures in
@@ -34,7 +34,7 @@ loop-i-preserved c =
     let e = ap (λ (o : Option Line). line_meant (Ok o)) (sym line) ∙ said.line ∙ ap (λ (s : List ℕ). line_of s place) c.loop-i.invariant.1 in
     let step = c.step.ensures in
     let moved = ap (λ (p : ℕ). onto (xs ++ (c.step.result ∷ [])) (read_from (64 - (i + 1)) sheet p)) (said.place ∙ ap (λ (o : Option Line). place_after (line_meant (Ok o)) place) line) in
-    let pushed = ap (λ (ys : List Step). onto ys (read_from (64 - (i + 1)) sheet c.next_line.new.self.place)) c.in_ok-push.ensures.items in (
+    let pushed = ap (λ (ys : List Step). onto ys (read_from (64 - (i + 1)) sheet c.next_line.new.self.place)) c.in_ok-push-in-Some.ensures.items in (
       pushed ∙ moved ∙ goes_on sheet i place _ xs (omega arith) e c.step.result (λ rest. ap (λ (x : Step). onto (x ∷ []) rest) (sym step)) ∙ c.loop-i.invariant.0,
       said.sheet ∙ c.loop-i.invariant.1,
     )
@@ -48,4 +48,4 @@ loop-i-init c =
     )
 
 pub returns : goal.returns
-returns c = all_read c.args.sheet.now c.loop-i.-i c.loop-i.reader.place (vec_items c.loop-i.steps) (omega arith) ∙ c.loop-i.invariant.0
+returns c = all_read c.args.sheet.now c.loop-i._i c.loop-i.reader.place (vec_items c.loop-i.steps) (omega arith) ∙ c.loop-i.invariant.0

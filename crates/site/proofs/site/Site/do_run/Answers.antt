@@ -15,7 +15,7 @@ no_step = record { call = 0; client = 0; cell = 0; first = 0; second = 0 }
 
 pub loop-i-preserved : goal.loop-i-preserved
 loop-i-preserved g c = (
-  run_next (called g.row.D-Cell-Cell.empty) c.args.steps.now c.args.given.now c.loop-i.i no_step _ c.index-given-i.result c.index-got-i.result
+  run_next (called g.D.Cell.Cell.empty) c.args.steps.now c.args.given.now c.loop-i.i no_step _ c.index-given-i.result c.index-got-i.result
       (site_state g.D.Store g.M.Store g.B.Bank c.loop-i.self) (site_state g.D.Store g.M.Store g.B.Bank c.step.new.self)
       c.loop-i.answers c.loop-i.got c.step.new.answer c.step.new.got
       c.loop-i-test.true (omega arith) refl c.index-given-i.is c.step.ensures.does
@@ -35,7 +35,7 @@ returns-then-given-n g c =
     record {
       answer = sym (ap (λ b. asks b RowsUnequal) no);
       left =
-          sym (ap (λ b. run_from (called g.row.D-Cell-Cell.empty) (cond b (calls_of c.args.steps.now c.args.given.now) []) 0
+          sym (ap (λ b. run_from (called g.D.Cell.Cell.empty) (cond b (calls_of c.args.steps.now c.args.given.now) []) 0
           (running (site_state g.D.Store g.M.Store g.B.Bank c.args.self.now) c.args.answers.now c.args.got.now)) no);
       kept = refl;
     }
@@ -48,10 +48,10 @@ returns g c =
     record {
       answer = sym (ap (λ b. asks b RowsUnequal) yes);
       left =
-          sym (run_end (called g.row.D-Cell-Cell.empty) c.args.steps.now c.args.given.now c.loop-i.i
+          sym (run_end (called g.D.Cell.Cell.empty) c.args.steps.now c.args.given.now c.loop-i.i
           (running (site_state g.D.Store g.M.Store g.B.Bank c.loop-i.self) c.loop-i.answers c.loop-i.got) c.loop-i-test.false)
           ∙ c.loop-i.invariant.0
-          ∙ sym (ap (λ b. run_from (called g.row.D-Cell-Cell.empty) (cond b (calls_of c.args.steps.now c.args.given.now) []) 0
+          ∙ sym (ap (λ b. run_from (called g.D.Cell.Cell.empty) (cond b (calls_of c.args.steps.now c.args.given.now) []) 0
           (running (site_state g.D.Store g.M.Store g.B.Bank c.args.self.now) c.args.answers.now c.args.got.now)) yes);
       kept = c.loop-i.invariant.1;
     }
