@@ -13,9 +13,9 @@ returns c =
     let rs = c.run_steps.new.answers in
     let gs = c.run_steps.new.got in
     both _ _ _ _
-    (take_at rs _ _ (c.run_steps.auto.answers ∙ c.deref-mut.ensures.len) ∙ c.run_steps.ensures.answers)
-    (take_at gs _ _ (c.run_steps.auto.got ∙ c.deref-mut-2.ensures.len) ∙ c.run_steps.ensures.got)
-    ∙ answers_are c.args.steps.now c.deref.result.now c.deref-mut-2.result.now c.deref-mut.result.now
+    (take_at rs _ _ (c.run_steps.auto.answers ∙ c.deref_mut.ensures.len) ∙ c.run_steps.ensures.answers)
+    (take_at gs _ _ (c.run_steps.auto.got ∙ c.deref_mut-2.ensures.len) ∙ c.run_steps.ensures.got)
+    ∙ answers_are c.args.steps.now c.deref.result.now c.deref_mut-2.result.now c.deref_mut.result.now
     (c.deref.ensures.value ∙ c.in_ok-given.ensures)
-    (c.deref-mut.ensures.value ∙ c.in_ok-answers.ensures)
-    (c.deref-mut-2.ensures.value ∙ c.in_ok-got.ensures)
+    (c.deref_mut.ensures.value ∙ c.in_ok-answers.ensures)
+    (c.deref_mut-2.ensures.value ∙ c.in_ok-got.ensures)

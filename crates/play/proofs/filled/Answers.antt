@@ -11,4 +11,4 @@ pub loop-i-preserved : goal.loop-i-preserved
 loop-i-preserved g c =
     c.in_ok-push.ensures.items
     ∙ ap (λ (xs : List g.row.T.Denot). xs ++ (c.args.x ∷ [])) c.loop-i.invariant
-    ∙ one_more c.loop-i.-i c.args.x
+    ∙ one_more c.loop-i._i c.args.x
