@@ -2,11 +2,10 @@
 use Rattle.std.proofs.Common.{◌≡◌, Bool, cond, List, [], sym, ap, ◌∙◌}
 use Rattle.rules.specs.Site.{State}
 use Rattle.rules.specs.Making.{Start, made}
-use Rattle.rules.specs.Replies.{Call, called}
+use Rattle.rules.specs.Replies.{called}
 use Rattle.rules.specs.Runs.{Rows, equally_long, calls_of, Running, run_calls, ran}
 use Rattle.rules.specs.Carry.{LeftAlike, RunsAlike}
-use Rattle.rules.specs.Claim.{SameStart}
-use Rattle.rules.specs.History.{Act, row_log, after}
+use Rattle.rules.specs.History.{after}
 use Rattle.rules.specs.declared.step.Step.{Step}
 use Rattle.rules.proofs.Plays.{calls_after, calls_log, run_does}
 use Rattle.rules.proofs.Theorem.{same_start}

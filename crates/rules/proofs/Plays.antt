@@ -1,12 +1,12 @@
 -- A list of acts is a list of calls: a run does its steps' calls in order, and its rows show their replies.
-use Rattle.std.proofs.Common.{◌≡◌, ℕ, suc, ◌+◌, eqb, List, [], ◌∷◌, ◌++◌, length, get_or, set, Some, None, Ok, Err, Option, Result, unwrap_or, sym, refl, ap, ◌∙◌, add-one, arith}
+use Rattle.std.proofs.Common.{◌≡◌, ℕ, suc, eqb, List, [], ◌∷◌, ◌++◌, length, get_or, set, Some, None, Ok, Err, Option, Result, unwrap_or, sym, refl, ap, ◌∙◌, add-one, arith}
 use Rattle.std.proofs.lemmas.Bool.{eqb-true, and_parts}
 use Rattle.records.specs.Cells.{settled, fresh}
 use Rattle.records.specs.Records.{is_in_journal}
 use Rattle.records.specs.Questions.{admitted}
 use Rattle.store.specs.Stores.{stored}
 use Rattle.rules.specs.Site.{State, Outcome, with_marks, with_disk}
-use Rattle.rules.specs.Calls.{read_call, read_local, read_confirmed, read_fetched, read_asked}
+use Rattle.rules.specs.Calls.{read_call, read_local, read_confirmed, read_fetched}
 use Rattle.rules.specs.Replies.{Call, Reply, Out, open_reply, read_reply, noted_reply, plain_reply, stopped_reply, called}
 use Rattle.rules.specs.Runs.{Rows, call_of, calls_of, equally_long, Running, running, put_got, filled, run_from, run_calls, ran}
 use Rattle.rules.specs.History.{Entry, Act, single, run, logged, shown, row_log, acted, act_log, after, log}

@@ -10,7 +10,7 @@ use Rattle.records.specs.Records.{Records, top, is_none, cell_of, journal_of, no
 use Rattle.records.specs.Questions.{and_then, unless, there, present, holding, admitted, opening, beginning, committing, giving_up, closing, all_sent, first_from, taken_up, taken_place, taking_to_commit, taking_to_give_up}
 use Rattle.records.specs.Questions as questions
 use Rattle.rules.specs.Site.{State, Outcome, outcome, next, with_table, with_disk, with_locals, disk_read, disk_write, mark_read, mark_write, local_read, local_write}
-use Rattle.rules.specs.Calls.{open_call, read_local, read_confirmed, read_fetched, read_asked, read_call, write_call, begin_call, commit_call, give_up_call, close_call, sweep_record, sweep_cell, Sweeping, sweep_more, sweep_from, sweep_admitted, invalidate_call, restart_client_call, restart_server_call, with_note_of, begin_step, returned, commit_taken, commit_step, give_up_step}
+use Rattle.rules.specs.Calls.{open_call, read_local, read_confirmed, read_fetched, read_call, write_call, begin_call, commit_call, give_up_call, close_call, sweep_record, sweep_cell, Sweeping, sweep_more, sweep_from, sweep_admitted, invalidate_call, restart_client_call, restart_server_call, with_note_of, begin_step, returned, commit_taken, commit_step, give_up_step}
 use Rattle.rules.specs.Replies.{Call, Open, Read, Write, Begin, Commit, GiveUp, Close, Invalidate, RestartClient, RestartServer, BeginStep, CommitStep, GiveUpStep, NoStep, Reply, Out, replied, open_reply, read_reply, begin_reply, noted_reply, plain_reply, stopped_reply, swept_out, called}
 use Rattle.rules.specs.Claim.{Asking, nobody, of_client, of_cell, asking, IsThere, Rightly}
 use Rattle.records.specs.declared.records.CellRecord.{CellRecord}

@@ -8,7 +8,7 @@ use Rattle.store.specs.declared.life.Fault.{Fault}
 use Rattle.records.specs.Clients.{asked, changed}
 use Rattle.records.specs.Faults.{says}
 use Rattle.records.specs.Records.{Records, names, is_none, joined, cell_of, journal_of, note_of}
-use Rattle.records.specs.Questions.{and_then, unless, asks, fit, there, present, holding, found, admitted}
+use Rattle.records.specs.Questions.{and_then, unless, asks, there, present, holding, found, admitted}
 use Rattle.rules.specs.Site.{State, Outcome, next, ◌then◌, with_table, with_disk, with_marks, with_locals, told, told_local, disk_read, disk_write, mark_read, mark_write, local_read, local_write}
 use Rattle.records.specs.declared.records.CellRecord.{CellRecord}
 use Rattle.records.specs.declared.records.ClientRecord.{ClientRecord}

@@ -4,7 +4,7 @@ use Rattle.records.specs.Cells.{settled, fresh, sweeps}
 use Rattle.records.specs.Records.{cell_of, is_in_journal}
 use Rattle.records.specs.Questions.{fit, present, holding, admitted, opening, beginning, committing, giving_up, closing, taking_to_commit, taking_to_give_up}
 use Rattle.rules.specs.Site.{State, Outcome, outcome, next, ◌then◌, disk_read, disk_write, mark_read, mark_write, local_read, local_write}
-use Rattle.rules.specs.Calls.{read_local, read_confirmed, read_fetched, read_asked, read_call, begin_call, commit_call, give_up_call, sweep_record, sweep_cell, sweep_more, sweep_from, sweep_admitted, with_note_of, returned, commit_taken}
+use Rattle.rules.specs.Calls.{read_local, read_confirmed, read_fetched, read_call, begin_call, commit_call, give_up_call, sweep_record, sweep_cell, sweep_more, sweep_from, sweep_admitted, with_note_of, returned, commit_taken}
 use Rattle.rules.specs.Replies.{Call, Open, Read, Write, Begin, Commit, GiveUp, Close, Invalidate, RestartClient, RestartServer, BeginStep, CommitStep, GiveUpStep, NoStep, called}
 use Rattle.records.specs.declared.records.CellRecord.{CellRecord}
 use Rattle.records.specs.declared.records.Flush.{Flush}

@@ -10,7 +10,7 @@ use Rattle.records.specs.Cells.{new_cell, unchecked_cell, dirtied, fresh, settle
 use Rattle.records.specs.Records.{names, is_none, cell_of, is_in_journal, unsent_at, with_cell}
 use Rattle.records.specs.Questions.{admitted, opening, beginning, committing, closing}
 use Rattle.rules.specs.Site.{State, Outcome, outcome, with_table, with_disk, with_marks, with_locals}
-use Rattle.rules.specs.Calls.{open_call, read_local, read_confirmed, read_fetched, read_asked, read_call, write_call, begin_call, commit_call, give_up_call, close_call, sweep_cell, sweep_from, sweep_more, sweep_record, Sweeping, sweep_admitted, invalidate_call, restart_client_call, restart_server_call, with_note_of, begin_step, returned, commit_taken, commit_step, give_up_step}
+use Rattle.rules.specs.Calls.{open_call, read_local, read_confirmed, read_fetched, read_call, write_call, begin_call, commit_call, give_up_call, close_call, sweep_cell, sweep_from, sweep_more, sweep_record, Sweeping, sweep_admitted, invalidate_call, restart_client_call, restart_server_call, with_note_of, begin_step, returned, commit_taken, commit_step, give_up_step}
 use Rattle.rules.specs.Replies.{Out, out, refused, replied, open_reply, read_reply, begin_reply, noted_reply, plain_reply, plain, Reply, swept_out}
 use Rattle.rules.specs.Book.{Book, waiting, begun, after_sending, staged, entered, fed, Deed, reads, writes, begins, sends, other, put}
 use Rattle.rules.specs.Claim.{ReadRight}
@@ -24,7 +24,7 @@ use Rattle.records.specs.declared.fault.SiteFault.{SiteFault}
 use Rattle.records.specs.declared.fault.SiteFault.TheVariants as fault
 use Rattle.records.specs.declared.fault.StoreName.{StoreName}
 use Rattle.records.specs.declared.fault.StoreName.TheVariants.{Local, Marks, Disk}
-use Rattle.rules.proofs.Ways.{followed, chosen, by_disk_read, by_mark_read, by_disk_write, by_mark_write, entry, cell, equal_or_not, somebody, nobody_else, unnamed, unheld, was_yes, admitted_says, opening_says, beginning_says, committing_says, closing_says, holding_says}
+use Rattle.rules.proofs.Ways.{followed, chosen, by_disk_read, by_mark_read, by_disk_write, by_mark_write, entry, equal_or_not, somebody, nobody_else, unnamed, unheld, was_yes, admitted_says, opening_says, beginning_says, committing_says, closing_says, holding_says}
 use Rattle.rules.proofs.Sight.{Client, View, with_client, with_cells, held_by, store_of, client_of, cells_in, journal_in, mapped, seen, view, Relocal, same_locals, view_both, view_locals, by_local_read, by_local_write, journal_is, record_is, cell_known, flush_known}
 use Rattle.rules.proofs.Sight as sight
 use Rattle.rules.proofs.Invariant.{Inv, Of, Knows, Filed, mark_at, disk_at, changed, moved, lives, remarked, rewritten, write_own, book_other, check_own, fetch_own, begin_own, journal_else, sent_own, sent_serves, give_own, restart_own, drop_own, open_own, open_other, open_serves, close_own, close_other, close_serves, read_sure, read_fresh, read_disk, unsent_serves}

@@ -1,5 +1,5 @@
 -- One line read, and then the rest. Assumes nothing.
-use Rattle.std.proofs.Common.{◌≡◌, ℕ, suc, ◌+◌, ◌-◌, ◌<◌, ◌≤◌, List, [], ◌∷◌, ◌++◌, Some, None, Option, sym, refl, ap, ◌∙◌, append_assoc, append-nil, arith}
+use Rattle.std.proofs.Common.{◌≡◌, ℕ, suc, ◌+◌, ◌-◌, ◌<◌, ◌≤◌, List, [], ◌∷◌, ◌++◌, None, Option, sym, refl, ap, ◌∙◌, append_assoc, append-nil, arith}
 use Rattle.sheet.specs.Sheet.{LineAnswer, line_of, place_after}
 use Rattle.sheet.specs.declared.output.OutputLine.{OutputLine}
 use Rattle.rules.specs.declared.step.Step.{Step}

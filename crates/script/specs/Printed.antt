@@ -1,5 +1,5 @@
 -- What is printed for a sheet: its steps are run on the sheet's own site, and each answer is printed.
-use Rattle.std.specs.Prelude.{ℕ, List, [], ◌∷◌, ◌++◌, map, length, replicate}
+use Rattle.std.specs.Prelude.{ℕ, List, [], ◌∷◌, ◌++◌, length, replicate}
 use Rattle.store.specs.Stores.{Stored, stored, least}
 use Rattle.store.specs.declared.life.Life.TheVariants.{Endless}
 use Rattle.rules.specs.Site.{State}

@@ -1,4 +1,4 @@
--- Numbers right_justified in the columns of a line.
+-- Numbers right-justified in the columns of a line.
 use Rattle.std.specs.Prelude.{ℕ, ◌+◌, ◌-◌, Bool, List, ◌++◌, length, take, drop, replicate, decimal, nat_le}
 
 -- the w bytes from column k on, or as many as there are

@@ -1,4 +1,4 @@
-// Numbers right_justified in columns.
+// Numbers right-justified in columns.
 ghost use Rattle.std.specs.Prelude.{◌≡◌, ◌+◌, ◌-◌, ◌<◌, ◌≤◌, ◌&&◌, length, drop, is_ok, if◌then◌else◌, decimal, nat_le};
 ghost use Rattle.sheet.specs.Columns.{columns_for, columns_of, fits_columns, right_justified, with_columns};
 
@@ -86,7 +86,7 @@ fn put_right(out: &mut [u8], text: &[u8]) -> Result<(), NoRoom>
     Ok(())
 }
 
-// Puts a number into all the columns of `out`, right_justified; or, where it
+// Puts a number into all the columns of `out`, right-justified; or, where it
 // has more digits than there are columns, leaves them as they are.
 pub fn put_number(out: &mut [u8], n: u32) -> Result<(), NoRoom>
     ensures fits { is_ok result ≡ fits_columns (length out.old) n }

@@ -5,8 +5,8 @@ use Rattle.records.specs.Questions.{taken_place, taking_to_commit, taking_to_giv
 use Rattle.records.specs.declared.records.Flush.{Flush}
 use Rattle.records.specs.declared.fault.SiteFault.{SiteFault}
 use Rattle.rules.specs.Site.{State, Outcome, outcome, next}
-use Rattle.rules.specs.Calls.{open_call, read_call, write_call, begin_step, with_note_of, returned, commit_taken, give_up_call, close_call, Sweeping, sweeping, invalidate_call, restart_client_call, restart_server_call}
-use Rattle.rules.specs.Replies.{Call, Open, Read, Write, Close, Invalidate, RestartClient, RestartServer, BeginStep, CommitStep, GiveUpStep, NoStep, Reply, Out, out, plain, refused, open_reply, read_reply, noted_reply, plain_reply, swept_reply, replied, swept_out, called}
+use Rattle.rules.specs.Calls.{open_call, read_call, write_call, begin_step, with_note_of, returned, commit_taken, give_up_call, close_call, sweeping, invalidate_call, restart_client_call, restart_server_call}
+use Rattle.rules.specs.Replies.{Call, Open, Read, Write, Close, Invalidate, RestartClient, RestartServer, BeginStep, CommitStep, GiveUpStep, NoStep, Reply, out, plain, refused, open_reply, read_reply, noted_reply, plain_reply, swept_reply, replied, swept_out, called}
 use Rattle.rules.specs.Runs.{call_of}
 use Rattle.rules.specs.declared.answer.Swept.{Swept}
 use Rattle.rules.specs.declared.step.Step.{Step}

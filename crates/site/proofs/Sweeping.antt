@@ -1,7 +1,7 @@
 -- A sweep's first cell, and its end.
-use Rattle.std.proofs.Common.{◌≡◌, ℕ, zero, suc, ◌+◌, ◌-◌, ◌<◌, ◌≤◌, Bool, true, false, cond, Some, None, Result, sym, refl, ap, ◌∙◌, arith}
+use Rattle.std.proofs.Common.{◌≡◌, ℕ, suc, ◌-◌, ◌<◌, ◌≤◌, Bool, true, false, cond, None, Result, sym, ap, ◌∙◌, arith}
 use Rattle.rules.specs.Site.{State, Outcome, outcome}
-use Rattle.rules.specs.Calls.{Sweeping, sweep_cell, sweep_from, sweep_more, swept}
+use Rattle.rules.specs.Calls.{sweep_cell, sweep_from, sweep_more, swept}
 use Rattle.records.specs.declared.fault.SiteFault.{SiteFault}
 
 module _ {V : Type 0} (k : ℕ) where

@@ -1,8 +1,8 @@
 -- What a run's step puts into the rows.
-use Rattle.std.specs.Prelude.{ℕ, List, Some, None, Option}
+use Rattle.std.specs.Prelude.{List, None}
 use Rattle.std.specs.Option.{unwrap_or}
 use Rattle.rules.specs.Site.{State}
-use Rattle.rules.specs.Replies.{Reply, Out, Call, called}
+use Rattle.rules.specs.Replies.{Reply, Out, called}
 use Rattle.rules.specs.Runs.{Rows, Running, ran}
 use Rattle.rules.specs.declared.answer.Answer.{Answer}
 use Rattle.rules.specs.declared.step.Step.{Step}

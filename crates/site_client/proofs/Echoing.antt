@@ -4,7 +4,7 @@ use Rattle.rules.specs.Site.{State, outcome}
 use Rattle.rules.specs.Replies.{Out, out, Open, Read, Write, called, replied, open_reply, plain_reply}
 use Rattle.rules.specs.Making.{Start, made}
 use Rattle.rules.specs.Carry.{Continues}
-use Rattle.rules.specs.History.{Act, single, after, log}
+use Rattle.rules.specs.History.{Act, single, log}
 use Rattle.rules.specs.Book.{Book, fed, entered, writes}
 use Rattle.rules.specs.declared.answer.Answer.{Answer}
 use Rattle.site.specs.Promises.{open_does, write_does, read_shown}

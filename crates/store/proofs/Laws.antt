@@ -1,5 +1,5 @@
 -- What an accepted operation tells its caller. Assumes nothing.
-use Rattle.std.proofs.Common.{◌≡◌, ℕ, ◌<◌, ltb, List, length, set, Some, None, Ok, Err, Option, Result, sym, refl, ◌∙◌, arith}
+use Rattle.std.proofs.Common.{◌≡◌, ℕ, ◌<◌, length, Some, None, Ok, Err, Option, Result, refl, arith}
 use Rattle.std.specs.List.{slice_get}
 use Rattle.store.specs.declared.life.Life.{Life}
 use Rattle.store.specs.declared.life.Fault.{Fault}

@@ -1,5 +1,5 @@
 -- What a window shows of the cells below, and what it leaves. Assumes nothing.
-use Rattle.std.proofs.Common.{◌≡◌, ℕ, ◌+◌, ◌<◌, ◌≤◌, leb, List, [], length, get_or, take, drop, set, Some, None, Ok, Err, Option, Result, sym, refl, ap, ◌∙◌, ⊎_elim, arith}
+use Rattle.std.proofs.Common.{◌≡◌, ℕ, ◌+◌, ◌<◌, ◌≤◌, leb, List, [], length, get_or, take, drop, set, Some, None, Ok, Err, Result, sym, refl, ap, ◌∙◌, ⊎_elim, arith}
 use lib.Seq.{take-set-lt}
 use Rattle.std.specs.List.{slice_get}
 use Rattle.std.proofs.lemmas.List.{length-take, length-drop, length-set, get_or-take, get_or-drop, drop-set-add, drop-set-lt, take-set-le}
@@ -7,7 +7,7 @@ use Rattle.std.proofs.lemmas.Option.{slice_get-get_or}
 use Rattle.std.proofs.lemmas.Bool.{le-leb, lt-leb, cases_lt, cond-true, cond-false}
 use Rattle.store.specs.declared.life.Life.{Life}
 use Rattle.store.specs.declared.life.Fault.{Fault}
-use Rattle.store.specs.Stores.{Stored, stored, part, span_of, through, around, granted, within, after, read_answer, after_read, write_answer, after_write}
+use Rattle.store.specs.Stores.{Stored, stored, part, span_of, through, around, granted, after, read_answer, after_read, write_answer, after_write}
 
 module _ {C : Type 0} (f n : ℕ) (cs : List C) where
   pub part_within : f + n ≤ length cs → part f n cs ≡ take n (drop f cs)

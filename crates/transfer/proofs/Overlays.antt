@@ -1,12 +1,12 @@
 -- A copy lays the source's cells over the target's, as far as it came. Assumes nothing.
-use Rattle.std.proofs.Common.{◌≡◌, ℕ, zero, suc, ◌+◌, ◌-◌, ◌<◌, ◌≤◌, max, ◌≢◌, List, length, get_or, set, Some, None, Ok, Err, Result, sym, refl, ap, ◌∙◌, subst, ⊎_elim, arith}
+use Rattle.std.proofs.Common.{◌≡◌, ℕ, zero, suc, ◌+◌, ◌-◌, ◌<◌, ◌≤◌, max, ◌≢◌, List, length, set, Some, Ok, Err, Result, sym, refl, ap, ◌∙◌, subst, ⊎_elim, arith}
 use Rattle.std.specs.List.{slice_get}
 use Rattle.std.proofs.lemmas.Option.{slice_get-get_or, slice_get_past}
 use Rattle.std.proofs.lemmas.List.{length-set, get_or-set_same, get_or-set_other}
 use Rattle.std.proofs.lemmas.Bool.{cases_lt}
 use Rattle.store.specs.declared.life.Fault.{Fault}
-use Rattle.store.specs.Stores.{Stored, after, after_read, after_write, read_answer, write_answer}
-use Rattle.store.proofs.Laws.{read_gives, write_inside, cells_stay}
+use Rattle.store.specs.Stores.{Stored, after, read_answer, write_answer}
+use Rattle.store.proofs.Laws.{read_gives, write_inside}
 use Rattle.transfer.specs.declared.Side.TheVariants.{Source, Target}
 use Rattle.transfer.specs.declared.Stop.{Stop}
 use Rattle.transfer.specs.Copies.{Moved, moved, stop, told, put_on, copied_cell, copied_from, go_on, reached, Overlaid}

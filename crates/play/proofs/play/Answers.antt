@@ -1,10 +1,9 @@
 use Rattle.std.proofs.Common.{◌≡◌, ℕ, List, ◌++◌, vec_items, ap, ◌∙◌}
 use Rattle.std.proofs.lemmas.Result.{IfOk-weaker}
 use Rattle.rules.specs.declared.answer.Answer.{Answer}
-use Rattle.rules.specs.declared.step.Step.{Step}
 use Rattle.script.specs.Scripts.{answered, ended}
 use Rattle.script.specs.Printed.{printed}
-use Rattle.play.specs.Plays.{left_by, answers_to}
+use Rattle.play.specs.Plays.{answers_to}
 use Rattle.play.proofs.Setting.{all_printed}
 use Rattle.play.proofs.play.Goals as goal
 

@@ -1,4 +1,4 @@
-use Rattle.std.proofs.Common.{◌≡◌, ap, ◌∙◌}
+use Rattle.std.proofs.Common.{ap, ◌∙◌}
 use Rattle.rules.specs.Replies.{called}
 use Rattle.rules.specs.Runs.{Running, ran}
 use Rattle.rules.specs.Site.{State}

@@ -1,4 +1,4 @@
-use Rattle.std.proofs.Common.{◌≡◌, ℕ, ap, ◌∙◌}
+use Rattle.std.proofs.Common.{ℕ, ap, ◌∙◌}
 use Rattle.rules.specs.Runs.{Running}
 use Rattle.site.specs.Steps.{rows}
 use Rattle.play.proofs.Setting.{zeros_are, site_is}

@@ -1,4 +1,4 @@
-use Rattle.std.proofs.Common.{◌≡◌, ℕ, ◌<◌, List, ◌++◌, get_or, vec_items, ap, ◌∙◌, arith}
+use Rattle.std.proofs.Common.{ℕ, ◌++◌, get_or, vec_items, ap, ◌∙◌, arith}
 use Rattle.sheet.specs.declared.output.OutputLine.{OutputLine}
 use Rattle.rules.specs.Replies.{accepted}
 use Rattle.script.specs.Scripts.{line_bytes, answer_line}

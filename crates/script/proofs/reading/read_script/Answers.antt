@@ -1,4 +1,4 @@
-use Rattle.std.proofs.Common.{◌≡◌, ℕ, ◌+◌, ◌-◌, ◌<◌, ◌≤◌, List, [], ◌∷◌, ◌++◌, Some, None, Ok, vec_items, Option, sym, refl, ap, ◌∙◌, arith, rules}
+use Rattle.std.proofs.Common.{ℕ, ◌+◌, ◌-◌, List, [], ◌∷◌, ◌++◌, Some, None, Ok, vec_items, Option, sym, refl, ap, ◌∙◌, arith}
 use Rattle.sheet.specs.Answers.{line_meant}
 use Rattle.sheet.specs.Sheet.{line_of, place_after}
 use Rattle.sheet.specs.declared.lines.Line.{Line}

@@ -1,5 +1,5 @@
-use Rattle.std.proofs.Common.{◌≡◌, ◌-◌, ◌++◌, vec_items}
-use Rattle.script.specs.Scripts.{Scripted, scripted, read_from}
+use Rattle.std.proofs.Common.{◌≡◌, ◌-◌, vec_items}
+use Rattle.script.specs.Scripts.{read_from}
 use Rattle.script.proofs.Lines.{onto}
 use Rattle.script.proofs.reading.read_script.Given as goal
 

@@ -1,4 +1,4 @@
-use Rattle.std.proofs.Common.{◌≡◌, ℕ, ◌+◌, ◌-◌, ◌*◌, ◌<◌, ◌≤◌, List, length, get_or, take, drop, Ok, sym, ap, ◌∙◌, arith}
+use Rattle.std.proofs.Common.{◌≡◌, ℕ, ◌+◌, ◌-◌, ◌*◌, List, get_or, take, drop, Ok, sym, ap, ◌∙◌, arith}
 use Rattle.store.specs.declared.life.Life.TheVariants.{Endless}
 use Rattle.store.specs.Bytes.{blocks}
 use Rattle.store.proofs.Asked.{read_outside, read_inside}

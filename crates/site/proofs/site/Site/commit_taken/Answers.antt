@@ -1,6 +1,5 @@
 use Rattle.std.proofs.Common.{Some, Err, ap, ◌∙◌}
-use Rattle.records.specs.declared.fault.SiteFault.{SiteFault}
-use Rattle.rules.specs.Site.{State, outcome}
+use Rattle.rules.specs.Site.{outcome}
 use Rattle.rules.specs.Calls.{with_note_of}
 use Rattle.site.specs.Means.{site_state}
 use Rattle.site.specs.declared.slip.Slip.{Slip}

@@ -1,4 +1,4 @@
-use Rattle.std.proofs.Common.{◌≡◌, Bool, false, cond, [], sym, refl, ap, ◌∙◌, arith}
+use Rattle.std.proofs.Common.{◌≡◌, false, cond, [], sym, refl, ap, ◌∙◌, arith}
 use Rattle.records.specs.Questions.{asks}
 use Rattle.records.specs.declared.fault.SiteFault.TheVariants.{RowsUnequal}
 use Rattle.rules.specs.Replies.{called}

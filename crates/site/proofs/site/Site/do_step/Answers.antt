@@ -1,5 +1,4 @@
 use Rattle.std.proofs.Common.{refl, arith}
-use Rattle.site.specs.Means.{site_state}
 use Rattle.site.proofs.Stepping.{open_stepped, read_stepped, write_stepped, begin_stepped, close_stepped, invalidate_stepped, restart_client_stepped, restart_server_stepped, none_stepped}
 use Rattle.site.proofs.site.Site.do_step.Goals as goal
 

@@ -1,5 +1,4 @@
-use Rattle.std.proofs.Common.{◌≡◌, ◌+◌, ◌-◌, sym, ap, ◌∙◌, arith}
-use Rattle.rules.specs.Making.{look_from}
+use Rattle.std.proofs.Common.{◌+◌, ◌-◌, sym, ◌∙◌, arith}
 use Rattle.site.proofs.Makings.{look_none, look_unread, look_above, look_next}
 use Rattle.site.proofs.site.making.look.Goals as goal
 
