@@ -1,12 +1,13 @@
 -- Changes of a client's record in several steps, each in its place.
 use Rattle.std.proofs.Common.{◌≡◌, ℕ, ◌+◌, ◌<◌, ◌≤◌, List, ◌++◌, map, length, get_or, take, drop, set, Some, sym, refl, ap, ◌∙◌, arith}
+use Rattle.std.proofs.lemmas.Grind.{common_steps}
 use Rattle.std.proofs.lemmas.List.Edits.{map_over_more}
 use Rattle.std.proofs.lemmas.List.{get_or-set_same, set-set, set-get_or, get_or_default, length-append, length-map, length-take-le, length-drop, append-nil, take_all, drop_all}
 use Rattle.records.specs.Cells.{new_cell, unchecked_cell}
 use Rattle.records.specs.Clients.{changed}
 use Rattle.records.specs.Means.{records}
 use Rattle.records.specs.Records.{Records, with_clients, with_cells, unchecked_client, unchecked}
-use Rattle.records.specs.Shape.{no_client, Stands}
+use Rattle.records.specs.Shape.{Wide, Stands}
 use Rattle.records.specs.declared.records.CellRecord.{CellRecord}
 use Rattle.records.specs.declared.records.ClientRecord.{ClientRecord}
 use Rattle.records.specs.declared.table.Table.{Table}
@@ -22,43 +23,38 @@ twice f g t u v k a b =
 abbrev pub half : List CellRecord → ℕ → List CellRecord
 half xs i = map unchecked_cell (take i xs) ++ drop i xs
 
-abbrev pub halfway : Table → ℕ → ℕ → List ClientRecord
-halfway t p i = set t.clients p (with_cells (client t p) (half (client t p).cells i))
-
--- what one turn of the loop does to a client's record
-abbrev pub one_more : ℕ → ClientRecord → ClientRecord
-one_more i c = with_cells c (set c.cells i (unchecked_cell (get_or c.cells i new_cell)))
-
 half_length : (xs : List CellRecord) (i : ℕ) → i ≤ length xs → length (half xs i) ≡ length xs
 half_length xs i h =
     length-append (map unchecked_cell (take i xs)) (drop i xs)
     ∙ omega (arith, length-map (take i xs) unchecked_cell, length-take-le i xs h, length-drop i xs)
 
-module _ (t : Table) (k p : ℕ) (s : Stands k (Some p)) where
-  pub half_none : records t ≡ with_clients (records t) (halfway t p 0)
-  half_none = ap (with_clients (records t)) (sym (set-get_or t.clients p no_client))
+-- one cell more
+pub half_more : (xs ys : List CellRecord) (i : ℕ) → i < length xs → ys ≡ half xs i → set ys i (unchecked_cell (get_or ys i new_cell)) ≡ half xs (i + 1)
+half_more xs ys i l e =
+    let zs = half xs i in
+    let z : length zs ≡ length xs = half_length xs i (omega arith) in
+    let x = get_or zs i new_cell in
+    ap (λ ws. set ws i (unchecked_cell (get_or ws i new_cell))) e
+    ∙ map_over_more unchecked_cell xs zs i x (omega arith) refl (get_or_default zs i new_cell x (omega arith))
 
-  pub half_more : (r : Records) (i : ℕ) → i < 1024 → r ≡ with_clients (records t) (halfway t p i)
-      → with_clients r (set r.clients p (one_more i (get_or r.clients p no_client))) ≡ with_clients (records t) (halfway t p (i + 1))
-  half_more r i l e =
-      let xs = (client t p).cells in
-      let ys = half xs i in
-      let w : length xs ≡ 1024 = width t k p s in
-      let z : length ys ≡ length xs = half_length xs i (omega arith) in
-      let x = get_or ys i new_cell in
-      ap (λ (q : Records). with_clients q (set q.clients p (one_more i (get_or q.clients p no_client)))) e
-      ∙ ap (with_clients (records t))
-      (set-set t.clients p (with_cells (client t p) ys) _
-      ∙ ap (set t.clients p)
-      (ap (one_more i) (get_or-set_same t.clients p (with_cells (client t p) ys) no_client (omega (arith, t.eight, s.1)))
-      ∙ ap (with_cells (client t p))
-      (map_over_more unchecked_cell xs ys i x (omega arith) refl (get_or_default ys i new_cell x (omega arith)))))
+half_all : (xs : List CellRecord) (i : ℕ) → length xs ≤ i → half xs i ≡ map unchecked_cell xs
+half_all xs i l =
+    ap (λ zs. map unchecked_cell zs ++ drop i xs) (take_all i xs l)
+    ∙ (ap (λ zs. map unchecked_cell xs ++ zs) (drop_all i xs l) ∙ append-nil (map unchecked_cell xs))
 
-  pub half_all : (i : ℕ) → 1024 ≤ i → with_clients (records t) (halfway t p i) ≡ unchecked (records t) k
-  half_all i l =
-      let xs = (client t p).cells in
-      let w : length xs ≤ i = omega (arith, width t k p s) in
-      ap (λ ys. with_clients (records t) (set t.clients p (with_cells (client t p) ys)))
-      (ap (λ zs. map unchecked_cell zs ++ drop i xs) (take_all i xs w)
-      ∙ (ap (λ zs. map unchecked_cell xs ++ zs) (drop_all i xs w) ∙ append-nil (map unchecked_cell xs)))
+-- the table stays as wide as it is where a client's cells stay as many
+pub wide_still : (cs : List ClientRecord) (p : ℕ) (c : ClientRecord) → length cs ≡ 8 → Wide cs → length c.cells ≡ 1024 → Wide (set cs p c)
+wide_still cs p c e w l q h = grind (arith, common_steps)
+
+module _ (t : Table) (k p : ℕ) (s : Stands k (Some p)) (ys : List CellRecord) (i : ℕ) (e : ys ≡ half (client t p).cells i) where
+  pub half_width : i ≤ 1024 → length ys ≡ 1024
+  half_width l =
+      let w = width t k p s in
+      ap length e ∙ half_length (client t p).cells i (omega (arith, w)) ∙ w
+
+  -- past the last cell that is all of them
+  pub all_unchecked : 1024 ≤ i → with_clients (records t) (set t.clients p (with_cells (client t p) ys)) ≡ unchecked (records t) k
+  all_unchecked l =
+      ap (λ zs. with_clients (records t) (set t.clients p (with_cells (client t p) zs)))
+      (e ∙ half_all (client t p).cells i (omega (arith, width t k p s)))
       ∙ change_in t k p s unchecked_client

@@ -79,8 +79,8 @@ impl Table {
         let Some(p) = place(k) else {
             return;
         };
-        for i in 0..1024 {
-            self.clients[p].cells[i].checked = false;
+        for cell in &mut self.clients[p].cells {
+            cell.checked = false;
         }
     }
 

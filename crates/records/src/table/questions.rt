@@ -13,10 +13,10 @@ impl Table {
     pub fn fit(&self) -> Result<(), SiteFault>
         ensures { result ≡ fit (records self.now) }
     {
-        match self.unfit {
-            None => Ok(()),
-            Some(_) => Err(SiteFault::Unfit),
+        if self.unfit.is_some() {
+            return Err(SiteFault::Unfit);
         }
+        Ok(())
     }
 
     // Is client k there?
@@ -56,10 +56,7 @@ impl Table {
         if i >= self.size {
             return Err(SiteFault::NoCell);
         }
-        match self.cell(k, i) {
-            None => Err(SiteFault::NoCell),
-            Some(r) => Ok(r),
-        }
+        self.cell(k, i).ok_or(SiteFault::NoCell)
     }
 
     // May client k open? Gives the next session.
@@ -70,10 +67,7 @@ impl Table {
         if self.holder.is_some() {
             return Err(SiteFault::Held);
         }
-        match self.session.checked_add(1) {
-            None => Err(SiteFault::SessionsUsed),
-            Some(n) => Ok(n),
-        }
+        self.session.checked_add(1).ok_or(SiteFault::SessionsUsed)
     }
 
     // May client k begin a flush of cell i? Gives the cell's record and the next turn.
@@ -87,34 +81,33 @@ impl Table {
         if !r.dirty {
             return Err(SiteFault::NotDirty);
         }
-        match self.turn(k).checked_add(1) {
-            None => Err(SiteFault::TurnsUsed),
-            Some(n) => Ok((r, n)),
-        }
+        let turn = self.turn(k).checked_add(1).ok_or(SiteFault::TurnsUsed)?;
+        Ok((r, turn))
     }
 
-    // Is that flush in client k's journal? Whether k holds is not asked.
-    pub fn giving_up(&self, k: u32, i: u32, turn: u32) -> Result<(), SiteFault>
-        ensures { result ≡ giving_up (records self.now) k i turn }
+    // Is that flush in its client's journal? Whether the client holds is not asked.
+    pub fn giving_up(&self, flush: Flush) -> Result<(), SiteFault>
+        ensures { result ≡ giving_up (records self.now) flush.client flush.cell flush.turn }
     {
-        if !self.flushing(k, i, turn) {
+        if !self.flushing(flush) {
             return Err(SiteFault::NoFlush);
         }
         Ok(())
     }
 
-    // Does client k hold, and is that flush in its journal?
-    pub fn committing(&self, k: u32, i: u32, turn: u32) -> Result<(), SiteFault>
-        ensures { result ≡ committing (records self.now) k i turn }
+    // Does the flush's client hold, and is that flush in its journal?
+    pub fn committing(&self, flush: Flush) -> Result<(), SiteFault>
+        ensures { result ≡ committing (records self.now) flush.client flush.cell flush.turn }
     {
-        self.holding(k)?;
-        self.giving_up(k, i, turn)
+        self.holding(flush.client)?;
+        self.giving_up(flush)
     }
 
     // The first cell of client k that is dirty or in the journal.
     fn first_unsent(&self, k: u32) -> Option<u32>
         ensures { result ≡ first_from (unsent_at (records self.now) k) self.now.size 0 }
     {
+        // a `for`: of a `find` over the range the proof did not close
         for i in 0..self.size {
             if self.unsent(k, i) {
                 return Some(i);
@@ -138,10 +131,7 @@ impl Table {
     fn taken_up(&self, k: u32) -> Result<Flush, SiteFault>
         ensures { result ≡ taken_up (note_of (records self.now) k) }
     {
-        match self.noted(k) {
-            None => Err(SiteFault::NoFlush),
-            Some(n) => Ok(n),
-        }
+        self.noted(k).ok_or(SiteFault::NoFlush)
     }
 
     // A run's commit: does client k hold? Gives the slip that it has noted.

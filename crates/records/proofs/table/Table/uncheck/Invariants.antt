@@ -1,11 +1,7 @@
--- The first i cells are unchecked; past the last, that is all of them.
-use Rattle.std.proofs.Common.{◌≡◌, ◌≤◌}
-use Rattle.records.specs.Means.{records}
-use Rattle.records.specs.Records.{with_clients, unchecked}
-use Rattle.records.proofs.InPlace.{halfway}
+-- The cells before the place reached are unchecked.
+use Rattle.std.proofs.Common.{◌≡◌}
+use Rattle.records.proofs.InPlace.{half}
 use Rattle.records.proofs.table.Table.uncheck.Given as goal
 
-abbrev pub invariant-loop-i : goal.invariant-loop-i
-invariant-loop-i l =
-    (records l.self ≡ with_clients (records l.initial.self) (halfway l.initial.self l.p l.i))
-    × (1024 ≤ l.i → records l.self ≡ unchecked (records l.initial.self) l.k)
+abbrev pub invariant-loop-cell : goal.invariant-loop-cell
+invariant-loop-cell l = l.cell-items ≡ half l.initial.cell-items l.cell-index
