@@ -1,25 +1,22 @@
--- What the table's reads and writes come to, in terms of its meaning.
-use Rattle.std.proofs.Common.{◌≡◌, ℕ, suc, ◌+◌, ◌-◌, ◌<◌, ◌≤◌, Bool, true, false, cond, length, get_or, set, Some, None, Option, unwrap_or, sym, refl, ap, ◌∙◌, add-one, arith, zero, List, [], ◌∷◌}
-use Rattle.std.proofs.lemmas.List.{set_past, set-get_or}
+-- What the table's reads and changes come to, in terms of the records that it is seen as.
+use Rattle.std.proofs.Common.{◌≡◌, ℕ, zero, suc, ◌+◌, ◌-◌, ◌<◌, Bool, true, false, cond, List, [], ◌∷◌, length, get_or, set, Some, None, Option, unwrap_or, slice_get, sym, refl, ap, ◌∙◌, add-one, arith}
 use Rattle.std.proofs.lemmas.Option.{slice_get-get_or, slice_get_past}
 use Rattle.std.specs.Borrow.{Bor}
-use Rattle.std.specs.List.{slice_get}
 use Rattle.std.specs.Option.{option_copied, option_map}
 use Rattle.std.specs.Slice.{IsItemAt}
-use Rattle.records.specs.Cells.{new_cell}
 use Rattle.records.specs.Clients.{asked, changed}
 use Rattle.records.specs.Means.{records}
 use Rattle.records.specs.Questions.{first_from}
 use Rattle.records.specs.Records.{Records, joined, client_of, cell_of, journal_of, note_of, turn_of, flushing, flush_is, with_clients}
 use Rattle.records.specs.Shape.{no_client, Stands}
-use Rattle.records.specs.declared.records.CellRecord.{CellRecord}
 use Rattle.records.specs.declared.records.ClientRecord.{ClientRecord}
-use Rattle.records.specs.declared.table.Table.{Table}
-use Rattle.records.proofs.Told.{asked_out, asked_in, changed_out, changed_in}
+use Rattle.records.specs.declared.table.Table.TheInside.{Inside}
+use Rattle.records.proofs.Told.{asked_in, changed_in, changed_out}
 
--- the record at a place of the table
-abbrev pub client : Table → ℕ → ClientRecord
-client t p = get_or t.clients p no_client
+-- an item that is lent, copied
+pub item_copied : {X : Type 0} (xs : List X) (i : ℕ) (r : Option (Bor X)) → IsItemAt xs i r → option_copied r ≡ slice_get xs i
+item_copied xs i None h = sym (slice_get_past xs i (grind arith))
+item_copied xs i (Some x) h = let l : i < length xs = grind arith in sym (slice_get-get_or xs i x.now l ∙ grind arith)
 
 -- a question to client k's record is one to the record that was found
 asked_as : {X : Type 0} (f : ClientRecord → X) (cs : List ClientRecord) (k : ℕ) → asked f cs k ≡ option_map f (asked (λ c. c) cs k)
@@ -27,11 +24,6 @@ asked_as f [] k = refl
 asked_as f (c ∷ cs) zero = refl
 asked_as f (c ∷ cs) (suc zero) = refl
 asked_as f (c ∷ cs) (suc (suc k)) = asked_as f cs (suc k)
-
--- an item that is lent, copied
-pub item_copied : {X : Type 0} (xs : List X) (i : ℕ) (r : Option (Bor X)) → IsItemAt xs i r → option_copied r ≡ slice_get xs i
-item_copied xs i None h = sym (slice_get_past xs i (grind arith))
-item_copied xs i (Some x) h = let l : i < length xs = grind arith in sym (slice_get-get_or xs i x.now l ∙ grind arith)
 
 module _ (t : Records) (k : ℕ) (o : Option (Bor ClientRecord)) (e : option_copied o ≡ client_of t k) where
   -- what is asked of client k's record, by the record that was found
@@ -58,32 +50,20 @@ module _ (t : Records) (k : ℕ) (o : Option (Bor ClientRecord)) (e : option_cop
   unfolding flushing
   flushing_found i turn = ap (λ x. unwrap_or x false) (found_as (λ c. flush_is c i turn))
 
-module _ (t : Table) (k : ℕ) (s : Stands k None) where
-  pub client_out : None ≡ client_of (records t) k
-  client_out = sym (asked_out (λ c. c) t.clients k t.eight s)
+-- changes of client k's record, at its place in the table's fields; t is what these are seen as
+module _ (u : Inside) (t : Records) (k p : ℕ) (v : records u ≡ t) (s : Stands t.clients k (Some p)) where
+  pub client_in : Some (get_or u.clients p no_client) ≡ client_of t k
+  client_in = ap (λ (t : Records). Some (get_or t.clients p no_client)) v ∙ asked_in t.clients k (λ c. c) p no_client s
 
-  pub change_out : (f : ClientRecord → ClientRecord) → records t ≡ with_clients (records t) (changed f t.clients k)
-  change_out f = ap (with_clients (records t)) (sym (changed_out f t.clients k t.eight s))
+  pub change_in : (f : ClientRecord → ClientRecord) (x : ClientRecord) → x ≡ f (get_or u.clients p no_client) → with_clients (records u) (set u.clients p x) ≡ with_clients t (changed f t.clients k)
+  change_in f x e =
+      ap (λ y. with_clients (records u) (set u.clients p y)) e
+      ∙ ap (λ (t : Records). with_clients t (set t.clients p (f (get_or t.clients p no_client)))) v
+      ∙ ap (with_clients t) (changed_in t.clients k f p no_client s)
 
-module _ (t : Table) (k p : ℕ) (s : Stands k (Some p)) where
-  pub width : length (client t p).cells ≡ 1024
-  width = t.wide p s.1
-
-  pub client_in : Some (client t p) ≡ client_of (records t) k
-  client_in = sym (asked_in (λ c. c) t.clients k t.eight p no_client s)
-
-  pub change_in : (f : ClientRecord → ClientRecord) → with_clients (records t) (set t.clients p (f (client t p))) ≡ with_clients (records t) (changed f t.clients k)
-  change_in f = ap (with_clients (records t)) (sym (changed_in f t.clients k t.eight p no_client s))
-
-  -- a change that leaves the client's record as it is
-  pub change_nothing : (f : ClientRecord → ClientRecord) → f (client t p) ≡ client t p → records t ≡ with_clients (records t) (changed f t.clients k)
-  change_nothing f e =
-      ap (with_clients (records t)) (sym (set-get_or t.clients p no_client) ∙ ap (set t.clients p) (sym e))
-      ∙ change_in f
-
-  -- a write to a cell that the client's record has not
-  pub write_past : (i : ℕ) (r : CellRecord) → 1024 ≤ i → set (client t p).cells i r ≡ (client t p).cells
-  write_past i r l = set_past (client t p).cells i r (omega (arith, width))
+-- a client that the table has not
+pub change_out : (t : Records) (k : ℕ) → Stands t.clients k None → (f : ClientRecord → ClientRecord) → t ≡ with_clients t (changed f t.clients k)
+change_out t k s f = ap (with_clients t) (sym (changed_out t.clients k f s))
 
 -- a search's first number, and its end
 pub first_none : (f : ℕ → Bool) (n i : ℕ) → n ≡ 0 → first_from f n i ≡ None

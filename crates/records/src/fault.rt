@@ -1,7 +1,8 @@
 // Why a site is unfit, and why it refuses.
-ghost use Rattle.std.specs.Prelude.{◌≡◌};
+ghost use Rattle.std.specs.Prelude.{◌≡◌, ◌++◌, Some, codes, decimal};
 ghost use Rattle.records.specs.Faults.{unfit_number, store_number, says};
 
+use std::fmt;
 use store::Fault;
 
 // The first no at the making of a site.
@@ -108,6 +109,15 @@ impl From<SiteFault> for u8 {
             SiteFault::RowsUnequal => 23,
             SiteFault::NoCall => 24,
         }
+    }
+}
+
+// As programs print a refusal.
+impl fmt::Display for SiteFault {
+    ghost output = { λ fault. Some (codes "refused by " ++ decimal (says fault).number) };
+
+    fn fmt<W: fmt::Write>(&self, f: &mut fmt::Formatter<W>) -> fmt::Result {
+        write!(f, "refused by {}", u8::from(*self))
     }
 }
 
