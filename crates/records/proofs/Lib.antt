@@ -1,3 +1,3 @@
 mod Told
-mod Tables
-mod InPlace
+pub mod Tables
+pub mod InPlace

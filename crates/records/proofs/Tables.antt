@@ -11,7 +11,7 @@ use Rattle.records.specs.Records.{Records, joined, client_of, cell_of, journal_o
 use Rattle.records.specs.Shape.{no_client, Stands}
 use Rattle.records.specs.declared.records.ClientRecord.{ClientRecord}
 use Rattle.records.specs.declared.table.Table.TheInside.{Inside}
-use Rattle.records.proofs.Told.{asked_in, changed_in, changed_out}
+use Rattle.records.proofs.Told.{asked_in, asked_out, changed_in, changed_out}
 
 -- an item that is lent, copied
 pub item_copied : {X : Type 0} (xs : List X) (i : ℕ) (r : Option (Bor X)) → IsItemAt xs i r → option_copied r ≡ slice_get xs i
@@ -25,34 +25,32 @@ asked_as f (c ∷ cs) zero = refl
 asked_as f (c ∷ cs) (suc zero) = refl
 asked_as f (c ∷ cs) (suc (suc k)) = asked_as f cs (suc k)
 
-module _ (t : Records) (k : ℕ) (o : Option (Bor ClientRecord)) (e : option_copied o ≡ client_of t k) where
-  -- what is asked of client k's record, by the record that was found
-  found_as : {X : Type 0} (f : ClientRecord → X) → option_map f (option_copied o) ≡ asked f t.clients k
-  found_as f = ap (option_map f) e ∙ sym (asked_as f t.clients k)
+-- what is asked of client k's record, by the record
+module _ (t : Records) (k : ℕ) where
+  pub cell_is : (i : ℕ) → cell_of t k i ≡ joined (option_map (λ c. slice_get c.cells i) (client_of t k))
+  unfolding cell_of client_of
+  cell_is i = ap joined (asked_as (λ c. slice_get c.cells i) t.clients k)
 
-  pub cell_found : (i : ℕ) → joined (option_map (λ c. slice_get c.cells i) (option_copied o)) ≡ cell_of t k i
-  unfolding cell_of
-  cell_found i = ap joined (found_as (λ c. slice_get c.cells i))
+  pub journal_is : journal_of t k ≡ joined (option_map (λ c. c.journal) (client_of t k))
+  unfolding journal_of client_of
+  journal_is = ap joined (asked_as (λ c. c.journal) t.clients k)
 
-  pub journal_found : joined (option_map (λ c. c.journal) (option_copied o)) ≡ journal_of t k
-  unfolding journal_of
-  journal_found = ap joined (found_as (λ c. c.journal))
+  pub note_is : note_of t k ≡ joined (option_map (λ c. c.note) (client_of t k))
+  unfolding note_of client_of
+  note_is = ap joined (asked_as (λ c. c.note) t.clients k)
 
-  pub note_found : joined (option_map (λ c. c.note) (option_copied o)) ≡ note_of t k
-  unfolding note_of
-  note_found = ap joined (found_as (λ c. c.note))
+  pub turn_is : turn_of t k ≡ unwrap_or (option_map (λ c. c.turn) (client_of t k)) 0
+  unfolding turn_of client_of
+  turn_is = ap (λ x. unwrap_or x 0) (asked_as (λ c. c.turn) t.clients k)
 
-  pub turn_found : unwrap_or (option_map (λ c. c.turn) (option_copied o)) 0 ≡ turn_of t k
-  unfolding turn_of
-  turn_found = ap (λ x. unwrap_or x 0) (found_as (λ c. c.turn))
-
-  pub flushing_found : (i turn : ℕ) → unwrap_or (option_map (λ c. flush_is c i turn) (option_copied o)) false ≡ flushing t k i turn
-  unfolding flushing
-  flushing_found i turn = ap (λ x. unwrap_or x false) (found_as (λ c. flush_is c i turn))
+  pub flushing_is : (i turn : ℕ) → flushing t k i turn ≡ unwrap_or (option_map (λ c. flush_is c i turn) (client_of t k)) false
+  unfolding flushing client_of
+  flushing_is i turn = ap (λ x. unwrap_or x false) (asked_as (λ c. flush_is c i turn) t.clients k)
 
 -- changes of client k's record, at its place in the table's fields; t is what these are seen as
 module _ (u : Inside) (t : Records) (k p : ℕ) (v : records u ≡ t) (s : Stands t.clients k (Some p)) where
   pub client_in : Some (get_or u.clients p no_client) ≡ client_of t k
+  unfolding client_of
   client_in = ap (λ (t : Records). Some (get_or t.clients p no_client)) v ∙ asked_in t.clients k (λ c. c) p no_client s
 
   pub change_in : (f : ClientRecord → ClientRecord) (x : ClientRecord) → x ≡ f (get_or u.clients p no_client) → with_clients (records u) (set u.clients p x) ≡ with_clients t (changed f t.clients k)
@@ -62,6 +60,10 @@ module _ (u : Inside) (t : Records) (k p : ℕ) (v : records u ≡ t) (s : Stand
       ∙ ap (with_clients t) (changed_in t.clients k f p no_client s)
 
 -- a client that the table has not
+pub client_out : (t : Records) (k : ℕ) → Stands t.clients k None → None ≡ client_of t k
+unfolding client_of
+client_out t k s = asked_out t.clients k (λ c. c) s
+
 pub change_out : (t : Records) (k : ℕ) → Stands t.clients k None → (f : ClientRecord → ClientRecord) → t ≡ with_clients t (changed f t.clients k)
 change_out t k s f = ap (with_clients t) (sym (changed_out t.clients k f s))
 

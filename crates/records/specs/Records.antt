@@ -39,7 +39,7 @@ is_none None = true
 is_none (Some x) = false
 
 -- client k's record, if there is one
-abbrev pub client_of : Records → ℕ → Option ClientRecord
+unfoldable pub client_of : Records → ℕ → Option ClientRecord
 client_of t k = asked (λ c. c) t.clients k
 
 -- what client k's record says: of cell i; which cell is in the journal; the note; and the turn, which counts the flushes begun
@@ -140,6 +140,11 @@ given_up t k i = with_clients t (changed (λ c. given_up_client c i) t.clients k
 abbrev pub soiled : List CellRecord → Option ℕ → List CellRecord
 soiled xs None = xs
 soiled xs (Some j) = soiled_at xs j
+
+-- the same, and unchecked
+abbrev pub revived : List CellRecord → Option ℕ → List CellRecord
+revived xs None = xs
+revived xs (Some j) = slice_set xs j (unchecked_cell (dirtied true (slice_index_or xs j new_cell)))
 
 -- a restart: a cell in the journal becomes dirty, journal and note empty, and all cells unchecked
 abbrev pub restarted_client : ClientRecord → ClientRecord

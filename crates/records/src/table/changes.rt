@@ -6,6 +6,7 @@ ghost use Rattle.records.specs.Records.{with_cell, noted, unchecked, opened, clo
 use super::Table;
 use crate::records::{CellRecord, Flush};
 
+#[tactic(auto, using(crate::proofs::Tables::change_in, crate::proofs::Tables::change_out))]
 impl Table {
     // Client k's record of cell i becomes r.
     pub fn put(&mut self, k: u32, i: u32, r: CellRecord)

@@ -1,7 +1,7 @@
 // A client's record: what it says of a flush, and how it changes, in place. A change of a cell that it has not
 // leaves the cells as they are.
 ghost use Rattle.std.specs.Prelude.{◌≡◌, slice_set};
-ghost use Rattle.records.specs.Records.{new_client, flush_is, with_cells, unchecked_client, begun_client, given_up_client, restarted_client};
+ghost use Rattle.records.specs.Records.{new_client, flush_is, with_cells, unchecked_client, begun_client, given_up_client, revived, restarted_client};
 
 use crate::events::Event;
 use crate::records::{CellRecord, ClientRecord};
@@ -38,6 +38,7 @@ impl ClientRecord {
     }
 
     // All cells become unchecked.
+    #[tactic(auto, using(crate::proofs::InPlace::half_none, crate::proofs::InPlace::half_more, crate::proofs::InPlace::half_all))]
     pub(super) fn uncheck(&mut self)
         ensures { self.new ≡ unchecked_client self.old }
     {
@@ -67,10 +68,9 @@ impl ClientRecord {
         self.journal = None;
     }
 
-    // The client starts again: a cell in its journal becomes dirty, journal and note are empty, and nothing is
-    // checked.
-    pub(super) fn restart(&mut self)
-        ensures { self.new ≡ restarted_client self.old }
+    // A cell in the journal starts again.
+    fn revive(&mut self)
+        ensures { self.new ≡ with_cells self.old (revived self.old.cells self.old.journal) }
     {
         if let Some(j) = self.journal {
             let j = j as usize;
@@ -78,6 +78,15 @@ impl ClientRecord {
                 let _ = self.cells[j].react(Event::Restart { in_journal: true });
             }
         }
+    }
+
+    // The client starts again: a cell in its journal becomes dirty, journal and note are empty, and nothing is
+    // checked.
+    #[tactic(auto, using(crate::proofs::InPlace::unchecked_revived))]
+    pub(super) fn restart(&mut self)
+        ensures { self.new ≡ restarted_client self.old }
+    {
+        self.revive();
         self.journal = None;
         self.note = None;
         self.uncheck();

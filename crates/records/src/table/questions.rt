@@ -103,11 +103,11 @@ impl Table {
     }
 
     // The first cell of client k that is dirty or in the journal.
+    #[tactic(auto, using(crate::proofs::Tables::first_none, crate::proofs::Tables::first_found, crate::proofs::Tables::first_next))]
     fn first_unsent(&self, k: u32) -> Option<u32>
         ensures { result ≡ first_from (unsent_at self.now k) self.now.size 0 }
     {
-        // a `for`: of a `find` over the range the proof did not close
-        for i in 0..self.size {
+        for i in 0..self.size() {
             if self.unsent(k, i) {
                 return Some(i);
             }

@@ -55,6 +55,7 @@ impl Table {
     }
 
     // Client k's record, if the table has it.
+    #[tactic(auto, using(crate::proofs::Tables::client_in, crate::proofs::Tables::client_out))]
     fn client(&self, k: u32) -> Option<&ClientRecord>
         ensures { option_copied result ≡ client_of self.now k }
     {
@@ -63,6 +64,7 @@ impl Table {
     }
 
     // What client k knows of cell i, if the table has them.
+    #[tactic(auto, using(crate::proofs::Tables::item_copied, crate::proofs::Tables::cell_is))]
     pub fn cell(&self, k: u32, i: u32) -> Option<CellRecord>
         ensures { result ≡ cell_of self.now k i }
     {
@@ -70,6 +72,7 @@ impl Table {
     }
 
     // The cell in client k's journal.
+    #[tactic(auto, using(crate::proofs::Tables::journal_is))]
     pub fn journal(&self, k: u32) -> Option<u32>
         ensures { result ≡ journal_of self.now k }
     {
@@ -77,6 +80,7 @@ impl Table {
     }
 
     // Client k's note, a slip that a run has put aside. (A slip is the token that a begun flush gives out.)
+    #[tactic(auto, using(crate::proofs::Tables::note_is))]
     pub(super) fn noted(&self, k: u32) -> Option<Flush>
         ensures { result ≡ note_of self.now k }
     {
@@ -84,6 +88,7 @@ impl Table {
     }
 
     // Client k's turn: how many flushes it has begun.
+    #[tactic(auto, using(crate::proofs::Tables::turn_is))]
     pub(super) fn turn(&self, k: u32) -> u32
         ensures { result ≡ turn_of self.now k }
     {
@@ -91,6 +96,7 @@ impl Table {
     }
 
     // Whether that flush is in its client's journal.
+    #[tactic(auto, using(crate::proofs::Tables::flushing_is))]
     pub(super) fn flushing(&self, flush: Flush) -> bool
         ensures { result ≡ flushing self.now flush.client flush.cell flush.turn }
     {
