@@ -1,20 +1,33 @@
 -- Bytes as cells of w bytes: a read and a write of one. Assumes nothing.
-use Rattle.std.proofs.Common.{◌≡◌, ℕ, ◌+◌, ◌*◌, ◌/◌, ◌<◌, ◌≤◌, List, ◌++◌, length, get_or, take, drop, set, sym, ap, ◌∙◌, subst, ⊎_elim, mul-le-mul_left, mul-one, mul-add, arith, rules}
+use Rattle.std.proofs.Common.{◌≡◌, ℕ, zero, suc, ◌+◌, ◌*◌, ◌/◌, ◌<◌, ◌≤◌, List, ◌++◌, length, get_or, take, drop, set, sym, refl, ap, ◌∙◌, subst, ⊎_elim, mul-le-mul_left, mul-one, mul-add, arith, rules}
 use native.Mathlib.Nat.{mul-div-le}
 use borrow.Rule.Slice.PartMut.{put_mid, post_of}
-use Rattle.std.proofs.lemmas.List.{length-set, length-take-le, get_or-set_same, get_or-set_other, take_at, drop_at, same_lists, drop-take}
-use Rattle.std.proofs.lemmas.List.FromFn.{length-map-range_with_len, get_or-map-range_with_len}
+use Rattle.std.proofs.lemmas.List.{length-set, length-take-le, get_or-set_same, get_or-set_other, take_at, drop_at, same_lists, drop-take, drop-drop}
 use Rattle.std.proofs.lemmas.Slice.{take-put_mid_below, drop-put_mid, overwrites}
 use Rattle.std.proofs.lemmas.Bool.{cases_order}
+use Rattle.std.proofs.Math.Nat.{mul-zero, mul-suc}
+use Rattle.std.specs.Simd.{first_chunks}
 use Rattle.store.specs.Bytes.{blocks, spare}
+use Rattle.store.proofs.Asked.{write_endless, written_endless}
+
+length_chunks : (w k : ℕ) (bs : List ℕ) → length (first_chunks w k bs) ≡ k
+length_chunks w zero bs = refl
+length_chunks w (suc k) bs = ap suc (length_chunks w k (drop w bs))
+
+get_or_chunks : (w k : ℕ) (bs : List ℕ) (i : ℕ) (d : List ℕ) → i < k → get_or (first_chunks w k bs) i d ≡ take w (drop (w * i) bs)
+get_or_chunks w zero bs i d h = absurd (omega arith)
+get_or_chunks w (suc k) bs zero d h = rw (mul-zero w) refl
+get_or_chunks w (suc k) bs (suc i) d h =
+    let next : w + w * i ≡ w * suc i = omega (arith, mul-suc w i) in
+    get_or_chunks w k (drop w bs) i d (omega arith) ∙ ap (take w) (drop-drop (w * i) w bs ∙ ap (λ (j : ℕ). drop j bs) next)
 
 pub length_blocks : (w : ℕ) (bs : List ℕ) → length (blocks w bs) ≡ length bs / w
 unfolding blocks
-length_blocks w bs = length-map-range_with_len (λ i. take w (drop (w * i) bs)) 0 (length bs / w)
+length_blocks w bs = length_chunks w (length bs / w) bs
 
 pub get_or_blocks : (w : ℕ) (bs : List ℕ) (i : ℕ) (d : List ℕ) → i < length bs / w → get_or (blocks w bs) i d ≡ take w (drop (w * i) bs)
 unfolding blocks
-get_or_blocks w bs i d h = get_or-map-range_with_len (λ i. take w (drop (w * i) bs)) 0 (length bs / w) i i d h (omega arith)
+get_or_blocks w bs i d h = get_or_chunks w (length bs / w) bs i d h
 
 -- a cell ends within the whole cells
 pub block_end : (w k i : ℕ) → k < i → w * k + w ≤ w * i
@@ -65,3 +78,6 @@ module _ (w : ℕ) (bs : List ℕ) (i : ℕ) (v : List ℕ) (h : i < length bs /
       (λ below. left ∙ put_before k below ∙ sym right ∙ sym (get_or-set_other (blocks w bs) i k v d (omega arith)))
       (λ above. left ∙ put_after k above ∙ sym right ∙ sym (get_or-set_other (blocks w bs) i k v d (omega arith))))
       (cases_order k i))
+
+-- what a write to a sector comes to
+pub ruleset put = (length_blocks, block_within, put_blocks, put_spare, write_endless, written_endless)
