@@ -1,5 +1,5 @@
 // Some cells in a row of any store.
-ghost use Rattle.std.specs.Prelude.{◌≡◌, ◌+◌, ◌≤◌, length};
+ghost use Rattle.std.specs.Prelude.{◌≡◌, ◌+◌, ◌^◌, ◌<◌, length};
 ghost use Rattle.store.specs.Stores.{part, span_of, through, Around, around};
 
 use crate::life::Fault;
@@ -26,7 +26,7 @@ impl<S: Store> Window<S> {
     // How many cells it has: all or none.
     fn span(&self) -> usize
         ensures all { result ≡ span_of self.now.first self.now.size (length (S.Store.cells self.now.below)) }
-        ensures end { self.now.first + result ≤ 18446744073709551615 }
+        ensures end { self.now.first + result < 2 ^ 64 }
     {
         let count = self.below.count();
         match self.first.checked_add(self.size) {
