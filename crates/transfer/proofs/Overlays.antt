@@ -9,6 +9,7 @@ use Rattle.store.specs.Stores.{Stored, after, read_answer, write_answer}
 use Rattle.store.proofs.Laws.{read_gives, write_inside}
 use Rattle.transfer.specs.declared.Side.TheVariants.{Source, Target}
 use Rattle.transfer.specs.declared.Stop.{Stop}
+use Rattle.transfer.proofs.Copying.{one_more, stopped, all_copied}
 use Rattle.transfer.specs.Copies.{Moved, moved, stop, told, put_on, copied_cell, copied_from, go_on, reached, Overlaid}
 
 nth_set_same : {C : Type 0} (xs : List C) (i : ℕ) (v : C) → i < length xs → slice_get (set xs i v) i ≡ Some v
@@ -93,3 +94,5 @@ laid_from {C = C} n start a b a' b' r e =
     subst (λ (m : Moved C). Overlaid start (reached (max start n) m.answer) a.cells b.cells m.to.cells) (sym e)
     (subst (λ (m : ℕ). Overlaid start (reached m (copied_from (n - start) start a b).answer) a.cells b.cells (copied_from (n - start) start a b).to.cells) end
     (laid_over (n - start) start a b))
+
+pub ruleset copying = (one_more)
