@@ -48,7 +48,7 @@ pub fn copy_cell<A: Store, B: Store<Cell = A::Cell>>(
 
 // Copies the cells from `start` to the source's end onto the same cells of the target, in order, and
 // stops at the first refusal. A copy that stopped is resumed from where it stopped.
-#[tactic(auto, using(crate::proofs::Overlays::copying))]
+#[tactic(auto, using(crate::proofs::Copying::one_more))]
 pub fn copy<A: Store, B: Store<Cell = A::Cell>>(
     from: &mut A,
     to: &mut B,
