@@ -65,7 +65,7 @@ fn get_sector(bytes: &[u8], i: usize) -> Result<[u8; 512], Fault>
     ensures { result ≡ read_answer (endless (blocks 512 bytes.now)) i }
 {
     let (sectors, _) = bytes.as_chunks::<512>();
-    sectors.get(i).copied().ok_or(Fault::OutOfRange)
+    Ok(*sectors.get(i).ok_or(Fault::OutOfRange)?)
 }
 
 // Puts v in their place.

@@ -63,7 +63,7 @@ impl<'a, T: Cell> Store for Row<'a, T> {
 fn get_cell<T: Cell>(cells: &[T], i: usize) -> Result<T, Fault>
     ensures { result ≡ read_answer (endless cells.now) i }
 {
-    cells.get(i).copied().ok_or(Fault::OutOfRange)
+    Ok(*cells.get(i).ok_or(Fault::OutOfRange)?)
 }
 
 // Puts v in its place.
