@@ -5,31 +5,22 @@ use std::io;
 use store::{Cell, Fault, Fuse, Image, Row, Sector, Store, Window};
 use transfer::{Side, Stop, copy, copy_cell};
 
-fn reason(fault: Fault) -> &'static str {
-    match fault {
-        Fault::OutOfRange => "there is no such cell",
-        Fault::NoLife => "no life is left",
-    }
-}
-
 fn print_fault(rt: &impl Print, what: &str, i: usize, fault: Fault) -> io::Result<()> {
-    let number = fault.number();
-    let why = reason(fault);
-    println!(rt; "  {what} {i}: refused by {number}, {why}")
+    let number = u8::from(fault);
+    println!(rt; "  {what} {i}: refused by {number}, {fault}")
 }
 
 fn print_stop(rt: &impl Print, stop: Stop) -> io::Result<()> {
-    match stop.side {
-        Side::Source => print_fault(rt, "read cell", stop.at, stop.fault),
-        Side::Target => print_fault(rt, "write cell", stop.at, stop.fault),
-    }
+    let what = match stop.side {
+        Side::Source => "read cell",
+        Side::Target => "write cell",
+    };
+    print_fault(rt, what, stop.at, stop.fault)
 }
 
 // Writes sectors with a byte of their own, up to one past the end.
 fn fill(rt: &impl Print, image: &mut impl Store<Cell = Sector>) -> io::Result<()> {
-    let mut byte = 10u8;
-    for i in 0..image.count().saturating_add(1) {
-        byte = byte.saturating_add(1);
+    for (i, byte) in (0..=image.count()).zip(11u8..=255) {
         match image.write(i, [byte; 512]) {
             Ok(()) => println!(rt; "  write sector {i}: 512 bytes of {byte}")?,
             Err(fault) => print_fault(rt, "write sector", i, fault)?,
@@ -38,63 +29,68 @@ fn fill(rt: &impl Print, image: &mut impl Store<Cell = Sector>) -> io::Result<()
     Ok(())
 }
 
-// Copies cell by cell, and says where to resume.
-fn copy_aloud<C: Cell>(
-    rt: &impl Print,
-    from: &mut impl Store<Cell = C>,
-    to: &mut impl Store<Cell = C>,
-) -> io::Result<usize> {
-    let n = from.count();
-    for i in 0..n {
-        match copy_cell(from, to, i) {
-            Ok(()) => println!(rt; "  cell {i}: copied")?,
-            Err(stop) => {
-                print_stop(rt, stop)?;
-                return Ok(stop.at);
+// A copy from one store to another that prints all that it does.
+#[derive(Drop)]
+struct Copying<'a, P, A, B> {
+    rt: &'a P,
+    from: A,
+    to: B,
+}
+
+impl<'a, P: Print, A: Store, B: Store<Cell = A::Cell>> Copying<'a, P, A, B> {
+    // Copies cell by cell, and says where to resume.
+    fn copy_aloud(&mut self) -> io::Result<usize> {
+        let n = self.from.count();
+        for i in 0..n {
+            match copy_cell(&mut self.from, &mut self.to, i) {
+                Ok(()) => println!(self.rt; "  cell {i}: copied")?,
+                Err(stop) => {
+                    print_stop(self.rt, stop)?;
+                    return Ok(stop.at);
+                }
             }
         }
+        Ok(n)
     }
-    Ok(n)
-}
 
-// Resumes a copy at a cell.
-fn resume<C: Cell>(
-    rt: &impl Print,
-    from: &mut impl Store<Cell = C>,
-    to: &mut impl Store<Cell = C>,
-    start: usize,
-) -> io::Result<()> {
-    match copy(from, to, start) {
-        Ok(()) => println!(rt; "  cells from {start} on: copied"),
-        Err(stop) => print_stop(rt, stop),
+    // Gives one side new life; a method, since the checker doesn't follow a pile lent as a field.
+    fn renew_source(&mut self, n: u32) {
+        self.from.renew(n);
     }
-}
 
-// Whether cell i is the same in both.
-fn agree<C: Cell + PartialEq>(
-    from: &mut impl Store<Cell = C>,
-    to: &mut impl Store<Cell = C>,
-    i: usize,
-) -> Result<bool, Fault> {
-    let a = from.read(i)?;
-    let b = to.read(i)?;
-    Ok(a == b)
-}
+    fn renew_target(&mut self, n: u32) {
+        self.to.renew(n);
+    }
 
-// Reads both stores, and says of each cell whether they agree.
-fn verify<C: Cell + PartialEq>(
-    rt: &impl Print,
-    from: &mut impl Store<Cell = C>,
-    to: &mut impl Store<Cell = C>,
-) -> io::Result<()> {
-    for i in 0..from.count() {
-        match agree(from, to, i) {
-            Ok(true) => println!(rt; "  cell {i}: the same")?,
-            Ok(false) => println!(rt; "  cell {i}: DIFFERENT")?,
-            Err(fault) => print_fault(rt, "read cell", i, fault)?,
+    // Resumes a copy at a cell.
+    fn resume(&mut self, start: usize) -> io::Result<()> {
+        match copy(&mut self.from, &mut self.to, start) {
+            Ok(()) => println!(self.rt; "  cells from {start} on: copied"),
+            Err(stop) => print_stop(self.rt, stop),
         }
     }
-    Ok(())
+}
+
+impl<'a, P: Print, A: Store, B: Store<Cell = A::Cell>> Copying<'a, P, A, B>
+where
+    A::Cell: PartialEq,
+{
+    // Whether cell i is the same in both.
+    fn agree(&mut self, i: usize) -> Result<bool, Fault> {
+        Ok(self.from.read(i)? == self.to.read(i)?)
+    }
+
+    // Reads both stores, and says of each cell whether they agree.
+    fn verify(&mut self) -> io::Result<()> {
+        for i in 0..self.from.count() {
+            match self.agree(i) {
+                Ok(true) => println!(self.rt; "  cell {i}: the same")?,
+                Ok(false) => println!(self.rt; "  cell {i}: DIFFERENT")?,
+                Err(fault) => print_fault(self.rt, "read cell", i, fault)?,
+            }
+        }
+        Ok(())
+    }
 }
 
 // Three sectors of the image, from sector 1 on, under fuses that blow on the way.
@@ -103,45 +99,39 @@ fn back_up_image(rt: &impl Print, source: &mut [u8], target: &mut [u8]) -> io::R
     let mut backup = Image::new(target);
     println!(rt; "Making the image")?;
     fill(rt, &mut image)?;
-    let mut from = Fuse::new(Window::new(&mut image, 1, 3), 5);
-    let mut to = Window::new(Fuse::new(&mut backup, 2), 1, 3);
+    let from = Fuse::new(Window::new(&mut image, 1, 3), 5);
+    let to = Window::new(Fuse::new(&mut backup, 2), 1, 3);
+    let mut copying = Copying { rt, from, to };
     println!(rt; "Copying sectors 1 to 3, with a life of 5 on the source and 2 on the target")?;
-    let at = copy_aloud(rt, &mut from, &mut to)?;
-    to.renew(9);
+    let at = copying.copy_aloud()?;
+    copying.renew_target(9);
     println!(rt; "The target is renewed with 9, and the copy resumes")?;
-    resume(rt, &mut from, &mut to, at)?;
-    from.renew(9);
+    copying.resume(at)?;
+    copying.renew_source(9);
     println!(rt; "The source is renewed with 9, and the copy is verified")?;
-    verify(rt, &mut from, &mut to)
+    copying.verify()
 }
 
 // The image's block map, as numbers.
 fn back_up_map(rt: &impl Print) -> io::Result<()> {
     let mut map = [7, 0, 4294967295, 12];
     let mut saved = [u32::blank(); 4];
-    let mut from = Row::new(&mut map);
-    let mut to = Row::new(&mut saved);
+    let from = Row::new(&mut map);
+    let to = Row::new(&mut saved);
+    let mut copying = Copying { rt, from, to };
     println!(rt; "Copying the block map, 4 numbers")?;
-    resume(rt, &mut from, &mut to, 0)?;
-    verify(rt, &mut from, &mut to)
+    copying.resume(0)?;
+    copying.verify()
 }
 
 // Of each sector its first byte, and of the bytes after the last sector how many are still 255.
 fn print_around(rt: &impl Print, bytes: &mut [u8]) -> io::Result<()> {
-    let mut spare = 0usize;
-    for b in bytes.iter().skip(2560) {
-        if *b == 255 {
-            spare = spare.saturating_add(1);
-        }
-    }
+    let spare = bytes.iter().skip(2560).filter(|b| **b == 255).count();
     let mut image = Image::new(bytes);
     println!(rt; "The backup, sector by sector")?;
     for i in 0..image.count() {
         match image.read(i) {
-            Ok(sector) => {
-                let byte = sector[0];
-                println!(rt; "  sector {i}: bytes of {byte}")?;
-            }
+            Ok(sector) => println!(rt; "  sector {i}: bytes of {}", sector[0])?,
             Err(fault) => print_fault(rt, "read sector", i, fault)?,
         }
     }

@@ -6,7 +6,7 @@ use Rattle.store.specs.declared.life.Fault.{Fault}
 use Rattle.store.specs.Stores.{Stored, after, granted, read_answer, write_answer}
 
 granted_gives : {A : Type 0} (life : Life) (o : Option A) (x : A) → granted life o ≡ Ok x → o ≡ Some x
-granted_gives life None x e = let z : ◌≡◌ {A = ℕ} 0 1 = cc in absurd (omega arith)
+granted_gives life None x e = grind arith
 granted_gives life (Some y) x e = grind arith
 
 -- an accepted read gave the cell at its place

@@ -1,10 +1,10 @@
 -- Bytes as cells of w bytes. Assumes nothing.
-use Rattle.std.specs.Prelude.{ℕ, ◌*◌, ◌/◌, List, map, length, take, drop, replicate}
-use Rattle.std.specs.List.{range_with_len}
+use Rattle.std.specs.Prelude.{ℕ, ◌*◌, ◌/◌, List, length, drop, replicate}
+use Rattle.std.specs.Simd.{first_chunks}
 
--- cell i is the w bytes from byte w * i on; only whole cells count
+-- w bytes for each cell, from byte 0 on; only whole cells count
 unfoldable pub blocks : ℕ → List ℕ → List (List ℕ)
-blocks w bs = map (λ i. take w (drop (w * i) bs)) (range_with_len 0 (length bs / w))
+blocks w bs = first_chunks w (length bs / w) bs
 
 -- the bytes after the last whole cell
 unfoldable pub spare : ℕ → List ℕ → List ℕ

@@ -1,3 +1,4 @@
 pub mod Bytes
 pub mod Lengths
+pub mod Means
 pub mod Stores

@@ -1,5 +1,5 @@
 -- What a store means: a list of cells and a life, and what its four functions make of them. Assumes nothing.
-use Rattle.std.specs.Prelude.{ℕ, ◌+◌, ◌-◌, min, Bool, true, cond, List, [], length, take, drop, Some, None, Ok, Err, Option, Result, nat_le, nat_lt, slice_set}
+use Rattle.std.specs.Prelude.{ℕ, ◌+◌, ◌-◌, min, Bool, true, cond, List, [], length, take, drop, Some, None, Ok, Err, Option, Result, nat_le, nat_lt, slice_set, codes}
 use Rattle.std.specs.List.{slice_get}
 use Rattle.store.specs.declared.life.Life.{Life}
 use Rattle.store.specs.declared.life.Life.TheVariants.{Endless, Left}
@@ -21,6 +21,11 @@ endless xs = stored xs Endless
 abbrev pub fault_number : Fault → ℕ
 fault_number OutOfRange = 21
 fault_number NoLife = 22
+
+-- and its reason in words
+abbrev pub fault_text : Fault → List ℕ
+fault_text OutOfRange = codes "there is no such cell"
+fault_text NoLife = codes "no life is left"
 
 -- is life left?
 abbrev pub alive : Life → Bool
@@ -85,9 +90,9 @@ part f n cs = cond (nat_le (f + n) (length cs)) (take n (drop f cs)) []
 abbrev pub span_of : ℕ → ℕ → ℕ → ℕ
 span_of f n count = cond (nat_le (f + n) count) n 0
 
--- the cell below that is its cell i, if there is one
-abbrev pub through : ℕ → ℕ → ℕ → ℕ → Option ℕ
-through f n count i = cond (nat_lt i (span_of f n count)) (Some (f + i)) None
+-- the cell below that is its cell i, if it has one
+abbrev pub through : ℕ → ℕ → ℕ → ℕ → Result ℕ Fault
+through f n count i = cond (nat_lt i (span_of f n count)) (Ok (f + i)) (Err OutOfRange)
 
 -- what a window leaves out: its place, the cells before and after it, and what lies below
 pub record Around (R C : Type 0) : Type 0 where

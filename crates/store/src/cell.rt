@@ -23,9 +23,11 @@ impl Cell for u32 {
     }
 }
 
+// of this one length, since no store has other arrays
 impl Cell for [u8; 512] {
     ghost empty = { blank_bytes 512 };
 
+    #[tactic(auto, unfolding(crate::specs::Bytes::blank_bytes))]
     fn blank() -> [u8; 512] {
         [0; 512]
     }

@@ -23,6 +23,7 @@ impl<'a> Image<'a> {
         Image { bytes }
     }
 
+    // by `&self`, so that the bytes are known to be as they were
     fn get(&self, i: usize) -> Result<[u8; 512], Fault>
         ensures { result ≡ read_answer (endless (blocks 512 self.now.bytes.now)) i }
     {
@@ -42,6 +43,7 @@ impl<'a> Store for Image<'a> {
 
     ghost rest = { λ s. (s.bytes.ghost_name, spare 512 s.bytes.now) };
 
+    #[tactic(auto, using(crate::proofs::Blocks::length_blocks))]
     fn count(&self) -> usize {
         self.bytes.len() / 512
     }
@@ -58,19 +60,16 @@ impl<'a> Store for Image<'a> {
 }
 
 // The 512 bytes from byte 512 * i on.
+#[tactic(auto, unfolding(crate::specs::Bytes::blocks))]
 fn get_sector(bytes: &[u8], i: usize) -> Result<[u8; 512], Fault>
     ensures { result ≡ read_answer (endless (blocks 512 bytes.now)) i }
 {
-    if i >= bytes.len() / 512 {
-        return Err(Fault::OutOfRange);
-    }
-    let at = 512 * i;
-    let mut cell = [0; 512];
-    cell.copy_from_slice(&bytes[at..at + 512]);
-    Ok(cell)
+    let (sectors, _) = bytes.as_chunks::<512>();
+    Ok(*sectors.get(i).ok_or(Fault::OutOfRange)?)
 }
 
 // Puts v in their place.
+#[tactic(auto, using(crate::proofs::Blocks::put))]
 fn put_sector(bytes: &mut [u8], i: usize, v: [u8; 512]) -> Result<(), Fault>
     ensures answer { result ≡ write_answer (endless (blocks 512 bytes.old)) i }
     ensures after { endless (blocks 512 bytes.new) ≡ after_write (endless (blocks 512 bytes.old)) i v }
@@ -79,6 +78,7 @@ fn put_sector(bytes: &mut [u8], i: usize, v: [u8; 512]) -> Result<(), Fault>
     if i >= bytes.len() / 512 {
         return Err(Fault::OutOfRange);
     }
+    // not by `as_chunks_mut` or `get_mut`, which say nothing of what the bytes end as
     let at = 512 * i;
     bytes[at..at + 512].copy_from_slice(&v);
     Ok(())

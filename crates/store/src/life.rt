@@ -1,8 +1,11 @@
 // The life of a store, and why a store refuses.
-ghost use Rattle.std.specs.Prelude.{◌≡◌};
-ghost use Rattle.store.specs.Stores.{fault_number};
+ghost use Rattle.std.specs.Prelude.{◌≡◌, Some};
+ghost use Rattle.store.specs.Stores.{fault_number, fault_text};
+
+use std::fmt;
 
 // How many operations a store has left. A power cut at an operation is a life that runs out there.
+// An enum of its own: `None` would read as no life where it means an endless one.
 #[derive(Clone, Copy)]
 pub enum Life {
     Endless,
@@ -18,14 +21,26 @@ pub enum Fault {
     NoLife,
 }
 
-impl Fault {
-    // The number under which the refusal is reported.
-    pub fn number(self) -> u8
-        ensures { result ≡ fault_number self }
-    {
-        match self {
+impl From<Fault> for u8 {
+    // the number under which the refusal is reported
+    ghost from_gives = { λ fault number. number ≡ fault_number fault };
+
+    fn from(fault: Fault) -> u8 {
+        match fault {
             Fault::OutOfRange => 21,
             Fault::NoLife => 22,
+        }
+    }
+}
+
+impl fmt::Display for Fault {
+    // the reason in words
+    ghost output = { λ fault. Some (fault_text fault) };
+
+    fn fmt<W: fmt::Write>(&self, f: &mut fmt::Formatter<W>) -> fmt::Result {
+        match self {
+            Fault::OutOfRange => f.write_str("there is no such cell"),
+            Fault::NoLife => f.write_str("no life is left"),
         }
     }
 }

@@ -24,6 +24,7 @@ impl<'a, T> Row<'a, T> {
 }
 
 impl<'a, T: Cell> Row<'a, T> {
+    // by `&self`, so that the slice is known to be as it was
     fn get(&self, i: usize) -> Result<T, Fault>
         ensures { result ≡ read_answer (endless self.now.lent.now) i }
     {
@@ -62,10 +63,7 @@ impl<'a, T: Cell> Store for Row<'a, T> {
 fn get_cell<T: Cell>(cells: &[T], i: usize) -> Result<T, Fault>
     ensures { result ≡ read_answer (endless cells.now) i }
 {
-    if i >= cells.len() {
-        return Err(Fault::OutOfRange);
-    }
-    Ok(cells[i])
+    Ok(*cells.get(i).ok_or(Fault::OutOfRange)?)
 }
 
 // Puts v in its place.
@@ -76,6 +74,7 @@ fn put_cell<T: Cell>(cells: &mut [T], i: usize, v: T) -> Result<(), Fault>
     if i >= cells.len() {
         return Err(Fault::OutOfRange);
     }
+    // not by `get_mut`, which says nothing of what the slice ends as
     cells[i] = v;
     Ok(())
 }

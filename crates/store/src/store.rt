@@ -18,7 +18,7 @@ pub trait Store {
     ghost life: { Self → Life };
 
     // What the store stands on besides its cells and its life, as the lender's memory around them;
-    // no operation changes it.
+    // no operation changes it, which each says: it is of before and after, so no invariant holds it.
     ghost Rest: { Type 0 };
 
     ghost rest: { Self → Rest };

@@ -1,5 +1,5 @@
 // Some cells in a row of any store.
-ghost use Rattle.std.specs.Prelude.{◌≡◌, length};
+ghost use Rattle.std.specs.Prelude.{◌≡◌, ◌+◌, ◌^◌, ◌<◌, length};
 ghost use Rattle.store.specs.Stores.{part, span_of, through, Around, around};
 
 use crate::life::Fault;
@@ -25,25 +25,24 @@ impl<S> Window<S> {
 impl<S: Store> Window<S> {
     // How many cells it has: all or none.
     fn span(&self) -> usize
-        ensures { result ≡ span_of self.now.first self.now.size (length (S.Store.cells self.now.below)) }
+        ensures all { result ≡ span_of self.now.first self.now.size (length (S.Store.cells self.now.below)) }
+        ensures end { self.now.first + result < 2 ^ 64 }
     {
         let count = self.below.count();
-        if self.size <= count && self.first <= count - self.size {
-            self.size
-        } else {
-            0
+        match self.first.checked_add(self.size) {
+            Some(end) if end <= count => self.size,
+            _ => 0,
         }
     }
 
     // The cell below that is cell i here, if there is one.
-    fn place(&self, i: usize) -> Option<usize>
+    fn place(&self, i: usize) -> Result<usize, Fault>
         ensures { result ≡ through self.now.first self.now.size (length (S.Store.cells self.now.below)) i }
     {
-        let count = self.below.count();
-        if self.size <= count && self.first <= count - self.size && i < self.size {
-            Some(self.first + i)
+        if i < self.span() {
+            Ok(self.first + i)
         } else {
-            None
+            Err(Fault::OutOfRange)
         }
     }
 }
@@ -60,22 +59,21 @@ impl<S: Store> Store for Window<S> {
 
     ghost rest = { λ s. around s.first s.size (S.Store.cells s.below) (S.Store.rest s.below) };
 
+    #[tactic(auto, using(crate::proofs::Parts::part_count))]
     fn count(&self) -> usize {
         self.span()
     }
 
+    #[tactic(auto, using(crate::proofs::Parts::shown))]
     fn read(&mut self, i: usize) -> Result<S::Cell, Fault> {
-        match self.place(i) {
-            Some(at) => self.below.read(at),
-            None => Err(Fault::OutOfRange),
-        }
+        let at = self.place(i)?;
+        self.below.read(at)
     }
 
+    #[tactic(auto, using(crate::proofs::Parts::shown))]
     fn write(&mut self, i: usize, v: S::Cell) -> Result<(), Fault> {
-        match self.place(i) {
-            Some(at) => self.below.write(at, v),
-            None => Err(Fault::OutOfRange),
-        }
+        let at = self.place(i)?;
+        self.below.write(at, v)
     }
 
     fn renew(&mut self, n: u32) {

@@ -28,6 +28,7 @@ pub fn renewed() -> Result<u32, Fault>
 }
 
 // Cell 2 of the window of 3 from cell 2 on is cell 4.
+#[tactic(auto, unfolding(store::specs::Stores::part))]
 pub fn shifted() -> Result<u32, Fault>
     ensures { result ≡ Ok 14 }
 {
@@ -37,6 +38,7 @@ pub fn shifted() -> Result<u32, Fault>
 }
 
 // A window that passes the end has no cell.
+#[tactic(auto, unfolding(store::specs::Stores::part))]
 pub fn no_cell() -> Result<u32, Fault>
     ensures { result ≡ Err OutOfRange }
 {
@@ -50,10 +52,7 @@ pub fn given_back() -> u32
     ensures { result ≡ 7 }
 {
     let mut cells = [1, 2, 3];
-    {
-        let mut row = Row::new(&mut cells);
-        let _ = row.write(1, 7);
-    }
+    let _ = Row::new(&mut cells).write(1, 7);
     cells[1]
 }
 
@@ -68,7 +67,8 @@ pub fn write_fused<S: Store>(s: &mut S, life: u32, i: usize, v: S::Cell) -> Resu
     fuse.write(i, v)
 }
 
-// The same through a window below the fuse: the cells around the window are as they were too.
+// The same through a window below the fuse: the cells around the window are as they were too. The
+// numbers are those of the layers' constructors, so a struct of them would be a pile once more.
 pub fn write_through<S: Store>(
     s: &mut S,
     first: usize,
@@ -81,8 +81,8 @@ pub fn write_through<S: Store>(
     ensures beyond { drop (first + size) (S.Store.cells s.new) ≡ drop (first + size) (S.Store.cells s.old) }
     ensures kept { S.Store.rest s.new ≡ S.Store.rest s.old }
 {
-    let mut window = Window::new(s, first, size);
-    write_fused(&mut window, life, i, v)
+    let mut pile = Fuse::new(Window::new(s, first, size), life);
+    pile.write(i, v)
 }
 
 // The same on an image: the sectors around the window and the bytes after the last whole sector are as

@@ -14,6 +14,13 @@ mod tests {
     }
 
     #[test]
+    fn faults(rt: HostRuntime) {
+        for (fault, number) in [(Fault::OutOfRange, 21), (Fault::NoLife, 22)] {
+            assert_eq!(rt; u8::from(fault), number);
+        }
+    }
+
+    #[test]
     fn rows(rt: HostRuntime) {
         let mut none: [u32; 0] = [];
         let mut row = Row::new(&mut none);
@@ -45,9 +52,9 @@ mod tests {
             assert!(rt; put_and_get(&mut image, 0, [2; 512]) == Ok([2; 512]));
             assert_eq!(rt; image.write(1, [3; 512]), Err(Fault::OutOfRange));
         }
-        assert_eq!(rt; bytes[0], 2);
-        assert_eq!(rt; bytes[511], 2);
-        assert_eq!(rt; bytes[512], 1);
+        for (i, byte) in [(0, 2), (511, 2), (512, 1)] {
+            assert_eq!(rt; bytes.get(i).copied(), Some(byte));
+        }
         let blank: [u8; 512] = Cell::blank();
         assert!(rt; blank == [0; 512]);
     }
@@ -88,8 +95,9 @@ mod tests {
         let mut cells = [1, 2, 3];
         let mut row = Row::new(&mut cells);
         let mut blown = Fuse::new(&mut row, 0);
-        assert_eq!(rt; blown.read(0), Err(Fault::NoLife));
-        assert_eq!(rt; blown.read(3), Err(Fault::OutOfRange));
+        for (i, fault) in [(0, Fault::NoLife), (3, Fault::OutOfRange)] {
+            assert_eq!(rt; blown.read(i), Err(fault));
+        }
         assert_eq!(rt; blown.write(0, 9), Err(Fault::NoLife));
         assert_eq!(rt; blown.count(), 3);
         blown.renew(1);
@@ -138,12 +146,13 @@ mod tests {
         let mut target = [0; 4];
         let mut from = Row::new(&mut source);
         let mut to = Fuse::new(Row::new(&mut target), 2);
-        assert_eq!(rt;
-            copy(&mut from, &mut to, 0),
-            Err(stop(2, Side::Target, Fault::NoLife))
-        );
-        assert_eq!(rt; copy(&mut from, &mut to, 4), Ok(()));
-        assert_eq!(rt; copy(&mut from, &mut to, usize::MAX), Ok(()));
+        for (start, answer) in [
+            (0, Err(stop(2, Side::Target, Fault::NoLife))),
+            (4, Ok(())),
+            (usize::MAX, Ok(())),
+        ] {
+            assert_eq!(rt; copy(&mut from, &mut to, start), answer);
+        }
         to.renew(3);
         assert_eq!(rt; copy(&mut from, &mut to, 2), Ok(()));
         assert_eq!(rt; to.read(3), Ok(4));

@@ -1,8 +1,8 @@
 -- A copy lays the source's cells over the target's, as far as it came. Assumes nothing.
 use Rattle.std.proofs.Common.{◌≡◌, ℕ, zero, suc, ◌+◌, ◌-◌, ◌<◌, ◌≤◌, max, ◌≢◌, List, length, set, Some, Ok, Err, Result, sym, refl, ap, ◌∙◌, subst, ⊎_elim, arith}
 use Rattle.std.specs.List.{slice_get}
-use Rattle.std.proofs.lemmas.Option.{slice_get-get_or, slice_get_past}
-use Rattle.std.proofs.lemmas.List.{length-set, get_or-set_same, get_or-set_other}
+use Rattle.std.proofs.lemmas.Option.{slice_get_cases}
+use Rattle.std.proofs.lemmas.Grind.{common_steps}
 use Rattle.std.proofs.lemmas.Bool.{cases_lt}
 use Rattle.store.specs.declared.life.Fault.{Fault}
 use Rattle.store.specs.Stores.{Stored, after, read_answer, write_answer}
@@ -12,17 +12,13 @@ use Rattle.transfer.specs.declared.Stop.{Stop}
 use Rattle.transfer.specs.Copies.{Moved, moved, stop, told, put_on, copied_cell, copied_from, go_on, reached, Overlaid}
 
 nth_set_same : {C : Type 0} (xs : List C) (i : ℕ) (v : C) → i < length xs → slice_get (set xs i v) i ≡ Some v
-nth_set_same xs i v h =
-    let h' : i < length (set xs i v) = simp length-set h in
-    slice_get-get_or (set xs i v) i v h' ∙ ap Some (get_or-set_same xs i v v h)
+nth_set_same xs i v h = let at = slice_get_cases (set xs i v) i in grind (arith, common_steps)
 
 nth_set_other : {C : Type 0} (xs : List C) (i k : ℕ) (v : C) → k ≢ i → slice_get (set xs i v) k ≡ slice_get xs k
-nth_set_other xs i k v h = ⊎_elim
-    (λ lt.
-    let lt' : k < length (set xs i v) = simp length-set lt in
-    slice_get-get_or (set xs i v) k v lt' ∙ ap Some (get_or-set_other xs i k v v h) ∙ sym (slice_get-get_or xs k v lt))
-    (λ ge. slice_get_past (set xs i v) k (simp length-set ge) ∙ sym (slice_get_past xs k ge))
-    (cases_lt k (length xs))
+nth_set_other xs i k v h =
+    let new = slice_get_cases (set xs i v) k in
+    let old = slice_get_cases xs k in
+    grind (arith, common_steps)
 
 -- a cell copied is refused, and the target's cells stay; or the source's cell stands in its place
 module _ {C : Type 0} (Q : Stored C → Stored C → Result (Unit {0}) Stop → Type 0) (a b : Stored C) (i : ℕ)
