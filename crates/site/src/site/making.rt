@@ -9,6 +9,7 @@ use super::*;
 use records::fault::Unfit;
 
 // Questions 5 and 6, mark by mark: the first no.
+#[tactic(auto, using(crate::proofs::Makings::look_none, crate::proofs::Makings::look_unread))]
 fn look<M: Store<Cell = u32>>(marks: &mut M, m: usize, session: u32) -> Result<(), Unfit>
     ensures does { looked (result_err result) (stored (M.Store.cells marks.new) (M.Store.life marks.new)) ≡ look_from m 0 session (stored (M.Store.cells marks.old) (M.Store.life marks.old)) }
     ensures kept { M.Store.rest marks.new ≡ M.Store.rest marks.old }
@@ -24,6 +25,7 @@ fn look<M: Store<Cell = u32>>(marks: &mut M, m: usize, session: u32) -> Result<(
 }
 
 // Questions 1 to 6: the first no.
+#[tactic(auto, using(crate::proofs::Makings::no_size, crate::proofs::Makings::no_marks, crate::proofs::Makings::no_clients, crate::proofs::Makings::no_long, crate::proofs::Makings::then_look))]
 fn survey<D: Store, M: Store<Cell = u32>, B: Bank<Cell = D::Cell>>(
     disk: &D,
     marks: &mut M,

@@ -27,6 +27,7 @@ impl<D: Store, M: Store<Cell = u32>, B: Bank<Cell = D::Cell>> Site<D, M, B> {
     }
 
     // Begins, and notes the slip.
+    #[tactic(auto, using(crate::proofs::Stepping::begin_noted))]
     fn begin_step(&mut self, k: u32, i: u32) -> Result<Flush, SiteFault>
         ensures does { outcome (site_state D.Store M.Store B.Bank self.new) result ≡ begin_step (site_state D.Store M.Store B.Bank self.old) k i }
         ensures kept { site_rests D.Store M.Store B.Bank self.new ≡ site_rests D.Store M.Store B.Bank self.old }

@@ -29,6 +29,7 @@ impl<D: Store, M: Store<Cell = u32>, B: Bank<Cell = D::Cell>> Site<D, M, B> {
     }
 
     // Sweeps the m cells of client k, from 0, up to a mark that cannot be read.
+    #[tactic(auto, using(crate::proofs::Sweeping::sweep_none, crate::proofs::Sweeping::byte_le))]
     pub(super) fn sweep_all(&mut self, k: u32, m: u32) -> Result<u32, Stopped>
         ensures does { sweeping (site_state D.Store M.Store B.Bank self.new) result ≡ sweep_from k m (site_state D.Store M.Store B.Bank self.old) 0 0 }
         ensures kept { site_rests D.Store M.Store B.Bank self.new ≡ site_rests D.Store M.Store B.Bank self.old }

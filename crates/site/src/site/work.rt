@@ -1,7 +1,6 @@
 // What each call does: the questions, the operations in their order, and the change of the records last.
 ghost use Rattle.std.specs.Prelude.{◌≡◌};
 ghost use Rattle.site.specs.Means.{site_rests, site_state};
-ghost use Rattle.site.specs.Reads.{read_admitted, read_by_mark};
 ghost use Rattle.site.specs.Slips.{begin_given, settled, commit_flush, commit_given};
 ghost use Rattle.rules.specs.Site.{outcome};
 ghost use Rattle.rules.specs.Calls.{open_call, read_local, read_confirmed, read_fetched, read_call, write_call, give_up_call, close_call, sweeping, invalidate_call, restart_client_call, restart_server_call};
@@ -29,50 +28,16 @@ impl<D: Store, M: Store<Cell = u32>, B: Bank<Cell = D::Cell>> Site<D, M, B> {
         ensures does { outcome (site_state D.Store M.Store B.Bank self.new) result ≡ read_call (site_state D.Store M.Store B.Bank self.old) k i }
         ensures kept { site_rests D.Store M.Store B.Bank self.new ≡ site_rests D.Store M.Store B.Bank self.old }
     {
-        let cell = self.table.admitted(k, i)?;
+        let mut cell = self.table.admitted(k, i)?;
         let in_journal = self.table.in_journal(k, i);
-        self.read_admitted(k, i, cell, in_journal)
-    }
-
-    // A read of a cell with its record, in the journal or not: the server is asked where the copy alone does
-    // not count.
-    fn read_admitted(
-        &mut self,
-        k: u32,
-        i: u32,
-        mut cell: CellRecord,
-        in_journal: bool,
-    ) -> Result<(D::Cell, Source), SiteFault>
-        ensures does { outcome (site_state D.Store M.Store B.Bank self.new) result ≡ read_admitted (site_state D.Store M.Store B.Bank self.old) k i cell in_journal }
-        ensures kept { site_rests D.Store M.Store B.Bank self.new ≡ site_rests D.Store M.Store B.Bank self.old }
-    {
         if let Reaction::Local = cell.react(Event::Read {
             in_journal,
             mark: None,
         }) {
             return self.read_local(k, i);
         }
-        let mark = self.mark_read(i)?;
-        self.read_by_mark(k, i, cell, in_journal, mark)
-    }
-
-    // A read once the server's mark is known.
-    fn read_by_mark(
-        &mut self,
-        k: u32,
-        i: u32,
-        mut cell: CellRecord,
-        in_journal: bool,
-        mark: u32,
-    ) -> Result<(D::Cell, Source), SiteFault>
-        ensures does { outcome (site_state D.Store M.Store B.Bank self.new) result ≡ read_by_mark (site_state D.Store M.Store B.Bank self.old) k i cell in_journal mark }
-        ensures kept { site_rests D.Store M.Store B.Bank self.new ≡ site_rests D.Store M.Store B.Bank self.old }
-    {
-        match cell.react(Event::Read {
-            in_journal,
-            mark: Some(mark),
-        }) {
-            Reaction::Local => self.read_local(k, i),
+        let mark = Some(self.mark_read(i)?);
+        match cell.react(Event::Read { in_journal, mark }) {
             Reaction::Confirm => self.read_confirmed(k, i, cell),
             _ => self.read_fetched(k, i, cell),
         }

@@ -2,13 +2,6 @@ use Rattle.std.proofs.Common.{◌+◌, ◌-◌, sym, ◌∙◌, arith}
 use Rattle.site.proofs.Makings.{look_none, look_unread, look_above, look_next}
 use Rattle.site.proofs.site.making.look.Goals as goal
 
-pub returns-in-Err : goal.returns-in-Err
-returns-in-Err g c = record {
-  does =
-      sym (look_unread (c.args.m - c.loop-i.i) c.loop-i.i c.args.session _ _ _ (omega arith) c.read.ensures.after c.read.ensures.answer _ c.in-Err.is) ∙ c.loop-i.invariant.0;
-  kept = c.read.ensures.kept ∙ c.loop-i.invariant.1;
-}
-
 pub returns-in-Ok-2 : goal.returns-in-Ok-2
 returns-in-Ok-2 g c = record {
   does =
@@ -23,10 +16,3 @@ loop-i-preserved g c = (
       ∙ c.loop-i.invariant.0,
   c.read.ensures.kept ∙ c.loop-i.invariant.1,
 )
-
-pub returns : goal.returns
-returns g c = record {
-  does =
-      sym (look_none (c.args.m - c.loop-i.i) c.loop-i.i c.args.session _ (omega arith)) ∙ c.loop-i.invariant.0;
-  kept = c.loop-i.invariant.1;
-}
