@@ -32,11 +32,7 @@ const NO_ANSWER: Answer = Answer {
 fn given(heap: Global, steps: &[Step]) -> Result<Vec<u32>, AllocError>
     ensures { IfOk result (λ v. v.items ≡ given_by steps.now) }
 {
-    let mut cells = Vec::new(heap);
-    for step in steps {
-        cells.push(step.first)?;
-    }
-    Ok(cells)
+    steps.iter().map(|step| step.first).collect(heap)
 }
 
 // A row under a fuse of 1,000.
@@ -91,17 +87,6 @@ fn run_steps(steps: &[Step], given: &[u32], answers: &mut [Answer], got: &mut [u
     );
 }
 
-// n times x.
-fn filled<T: Copy>(heap: Global, x: T, n: usize) -> Result<Vec<T>, AllocError>
-    ensures { IfOk result (λ v. v.items ≡ replicate n x) }
-{
-    let mut items = Vec::new(heap);
-    for _i in 0..n {
-        items.push(x)?;
-    }
-    Ok(items)
-}
-
 // What a run left in its rows.
 #[derive(Drop)]
 struct Left {
@@ -114,8 +99,8 @@ fn answer(heap: Global, steps: &[Step]) -> Result<Left, AllocError>
     ensures { IfOk result (λ l. left_by l.answers.items l.got.items ≡ answers_to steps.now) }
 {
     let given = given(heap, steps)?;
-    let mut answers = filled(heap, NO_ANSWER, steps.len())?;
-    let mut got = filled(heap, 0, steps.len())?;
+    let mut answers = vec![in heap; NO_ANSWER; steps.len()]?;
+    let mut got = vec![in heap; 0; steps.len()]?;
     run_steps(steps, &given, &mut answers, &mut got);
     Ok(Left { answers, got })
 }

@@ -17,5 +17,5 @@ returns c =
     (take_at gs _ _ (c.run_steps.auto.got ∙ c.deref_mut-2.ensures.len) ∙ c.run_steps.ensures.got)
     ∙ answers_are c.args.steps.now c.deref.result.now c.deref_mut-2.result.now c.deref_mut.result.now
     (c.deref.ensures.value ∙ c.in_ok-given.ensures)
-    (c.deref_mut.ensures.value ∙ c.in_ok-answers.ensures)
-    (c.deref_mut-2.ensures.value ∙ c.in_ok-got.ensures)
+    (c.deref_mut.ensures.value ∙ c.in_ok-answers.ensures.items_if_clones_equal (λ y e. e))
+    (c.deref_mut-2.ensures.value ∙ c.in_ok-got.ensures.items_if_clones_equal (λ y e. e))
