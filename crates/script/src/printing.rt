@@ -46,8 +46,8 @@ fn answer_line(step: u32, answer: Answer, got: u32) -> OutputLine
 fn push_answers(out: &mut Vec<u8>, answers: &[Answer], got: &[u32]) -> Result<(), AllocError>
     ensures { OnOk result (out.new.items ≡ out.old.items ++ answered 0 answers.now got.now) }
 {
-    for i in 0..answers.len().min(got.len()) {
-        push_line(out, answer_line(step_number(i), answers[i], got[i]))?;
+    for (i, (answer, got)) in answers.iter().zip(got).enumerate() {
+        push_line(out, answer_line(step_number(i), *answer, *got))?;
     }
     Ok(())
 }

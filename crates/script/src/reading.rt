@@ -19,17 +19,14 @@ pub fn read_script(heap: Global, sheet: &[u8]) -> Result<Script, AllocError>
 {
     let mut reader = Reader::new(sheet);
     let mut steps = Vec::new(heap);
-    for _i in 0..64u32 {
-        let next = match reader.next_line() {
-            Ok(next) => next,
+    for _ in 0..64u32 {
+        match reader.next_line() {
+            Ok(Some(line)) => steps.push(line.step())?,
+            Ok(None) => return Ok(Script { steps, last: None }),
             Err(refusal) => {
                 let last = Some(refusal.output());
                 return Ok(Script { steps, last });
             }
-        };
-        match next {
-            Some(line) => steps.push(line.step())?,
-            None => return Ok(Script { steps, last: None }),
         }
     }
     Ok(Script { steps, last: None })
