@@ -8,6 +8,7 @@ use sheet::OutputLine;
 use std::alloc::{AllocError, Global};
 
 // Puts a line at the end; nothing where a number has more digits than columns.
+#[tactic(auto, unfolding(crate::specs::Scripts::line_bytes))]
 fn push_line(out: &mut Vec<u8>, line: OutputLine) -> Result<(), AllocError>
     ensures { OnOk result (out.new.items ≡ out.old.items ++ line_bytes line) }
 {
