@@ -44,6 +44,7 @@ fn fused(cells: &mut [u32]) -> Fuse<Row<'_, u32>>
 }
 
 // Runs the steps on a new site of these stores, with starting session 0.
+#[tactic(auto, unfolding(crate::specs::Plays::run_on, site::specs::Steps::run_does))]
 fn run_on<D: Store + Drop, M: Store<Cell = u32> + Drop, B: Bank<Cell = D::Cell> + Drop>(
     disk: D,
     marks: M,
@@ -62,6 +63,7 @@ fn run_on<D: Store + Drop, M: Store<Cell = u32> + Drop, B: Bank<Cell = D::Cell> 
 
 // Runs the steps on the sheet's own site: 8 number cells, 3 clients, all cells and marks 0, and every store a row
 // under a fuse of 1,000.
+#[tactic(auto, unfolding(crate::specs::Plays::run_on, script::specs::Printed::site))]
 fn run_steps(steps: &[Step], given: &[u32], answers: &mut [Answer], got: &mut [u32])
     ensures answers { answers.new ≡ (ran (called 0) site (rows steps.now given.now answers.old got.old)).answers }
     ensures got { got.new ≡ (ran (called 0) site (rows steps.now given.now answers.old got.old)).got }
@@ -95,6 +97,7 @@ struct Left {
 }
 
 // Runs the steps on the sheet's own site, with rows for them.
+#[tactic(auto, unfolding(crate::specs::Plays::answers_to))]
 fn answer(heap: Global, steps: &[Step]) -> Result<Left, AllocError>
     ensures { IfOk result (λ l. left_by l.answers.items l.got.items ≡ answers_to steps.now) }
 {
@@ -107,6 +110,7 @@ fn answer(heap: Global, steps: &[Step]) -> Result<Left, AllocError>
 
 // What is printed for a sheet: at most 64 lines are read, each is a step, and the steps are run on a site of their
 // own. A refused line ends the output. For want of memory nothing is printed.
+#[tactic(auto, unfolding(crate::specs::Plays::answers_to, script::specs::Printed::printed))]
 pub fn play(heap: Global, sheet: &[u8]) -> Result<Vec<u8>, AllocError>
     ensures { IfOk result (λ v. v.items ≡ printed sheet.now) }
 {
