@@ -44,6 +44,7 @@ fn answer_line(step: u32, answer: Answer, got: u32) -> OutputLine
 }
 
 // Puts the lines of a run's answers at the end.
+#[tactic(auto, using(crate::proofs::Answering::one_more))]
 fn push_answers(out: &mut Vec<u8>, answers: &[Answer], got: &[u32]) -> Result<(), AllocError>
     ensures { OnOk result (out.new.items ≡ out.old.items ++ answered 0 answers.now got.now) }
 {

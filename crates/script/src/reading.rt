@@ -14,6 +14,7 @@ pub struct Script {
 }
 
 // Reads a sheet up to its end or its first refused line, and 64 lines at most.
+#[tactic(auto, using(crate::proofs::Lines::at_end, crate::proofs::Lines::at_refusal, crate::proofs::Lines::goes_on, crate::proofs::Lines::all_read))]
 pub fn read_script(heap: Global, sheet: &[u8]) -> Result<Script, AllocError>
     ensures { IfOk result (λ s. scripted s.steps.items s.last ≡ read_from 64 sheet.now 0) }
 {
