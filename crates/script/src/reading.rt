@@ -23,11 +23,11 @@ pub fn read_script(heap: Global, sheet: &[u8]) -> Result<Script, AllocError>
     for _ in 0..64u32 {
         match reader.next_line() {
             Ok(Some(line)) => steps.push(line.step())?,
-            Ok(None) => return Ok(Script { steps, last: None }),
-            Err(refusal) => {
-                let last = Some(refusal.output());
-                return Ok(Script { steps, last });
-            }
+            Ok(None) => break,
+            Err(refusal) => return Ok(Script {
+                steps,
+                last: Some(refusal.output()),
+            }),
         }
     }
     Ok(Script { steps, last: None })
