@@ -44,6 +44,7 @@ fn fused(cells: &mut [u32]) -> Fuse<Row<'_, u32>>
 }
 
 // Runs the steps on a new site of these stores, with starting session 0.
+// (The four rows stay apart, as a site's run takes them: a struct of them would be taken apart at once.)
 #[tactic(auto, unfolding(crate::specs::Plays::run_on, site::specs::Steps::run_does))]
 fn run_on<D: Store + Drop, M: Store<Cell = u32> + Drop, B: Bank<Cell = D::Cell> + Drop>(
     disk: D,
