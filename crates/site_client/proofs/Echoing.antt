@@ -1,5 +1,6 @@
 -- A read that comes after a write on a new site gives what was written, by the read's promise.
 use Rattle.std.proofs.Common.{◌≡◌, ℕ, cond, eqb, List, [], ◌∷◌, Some, None, Ok, Result, sym, refl, ap, ◌∙◌, subst}
+use Rattle.std.proofs.lemmas.Option.{same_Some}
 use Rattle.records.specs.declared.fault.SiteFault.{SiteFault}
 use Rattle.rules.specs.Site.{State, outcome}
 use Rattle.rules.specs.Replies.{Out, out, Open, Read, Write, called, replied, open_reply, plain_reply}
@@ -9,9 +10,6 @@ use Rattle.rules.specs.History.{Act, single, log}
 use Rattle.rules.specs.Book.{Book, fed, entered, writes}
 use Rattle.rules.specs.declared.answer.Answer.{Answer}
 use Rattle.site.specs.Promises.{open_does, write_does, read_shown}
-
-some_same : {X : Type 0} (x y : X) → Some x ≡ Some y → x ≡ y
-some_same x y e = cc
 
 -- an accepted write is the last write
 last_is : {V : Type 0} (b : Book V) (v : V) (a : Answer) → a.number ≡ 0 → (fed b (writes 0 v) a 0).last ≡ v
@@ -39,4 +37,4 @@ module _ {V : Type 0} (blank : V) (x : Start V) (s₀ s₁ s₂ s₃ : State V) 
       let before : List (Act V) = single (Open 1) ∷ single (Write 1 0 v) ∷ [] in
       let u = upheld.whatever x before (ap (λ (s : State V). s.table.unfit) (sym start) ∙ sym fit) (ap (λ (o : Out V). o.state) both) in
       let r = u.each_read (log (called blank) (made x) before) _ [] refl in
-      some_same _ _ (r refl) ∙ last_is _ v (called blank (called blank (made x) (Open 1)).state (Write 1 0 v)).reply.answer (ap (λ (o : Out V). o.reply.answer.number) both)
+      same_Some _ _ (r refl) ∙ last_is _ v (called blank (called blank (made x) (Open 1)).state (Write 1 0 v)).reply.answer (ap (λ (o : Out V). o.reply.answer.number) both)
