@@ -1,4 +1,3 @@
 mod Told
 mod Tables
 mod InPlace
-mod Restarts

@@ -1,99 +1,69 @@
--- What the table's reads and writes come to, in terms of its meaning.
-use Rattle.std.proofs.Common.{◌≡◌, ℕ, suc, ◌+◌, ◌-◌, ◌<◌, ◌≤◌, Bool, true, false, cond, length, get_or, set, Some, None, Option, unwrap_or, sym, ap, ◌∙◌, add-one, arith}
-use Rattle.std.proofs.lemmas.List.{set_past, set-get_or}
+-- What the table's reads and changes come to, in terms of the records that it is seen as.
+use Rattle.std.proofs.Common.{◌≡◌, ℕ, zero, suc, ◌+◌, ◌-◌, ◌<◌, Bool, true, false, cond, List, [], ◌∷◌, length, get_or, set, Some, None, Option, unwrap_or, slice_get, sym, refl, ap, ◌∙◌, add-one, arith}
 use Rattle.std.proofs.lemmas.Option.{slice_get-get_or, slice_get_past}
-use Rattle.std.specs.List.{slice_get}
-use Rattle.records.specs.Cells.{new_cell}
+use Rattle.std.specs.Borrow.{Bor}
+use Rattle.std.specs.Option.{option_copied, option_map}
+use Rattle.std.specs.Slice.{IsItemAt}
 use Rattle.records.specs.Clients.{asked, changed}
 use Rattle.records.specs.Means.{records}
 use Rattle.records.specs.Questions.{first_from}
-use Rattle.records.specs.Records.{joined, cell_of, journal_of, note_of, turn_of, flushing, flush_is, with_clients}
+use Rattle.records.specs.Records.{Records, joined, client_of, cell_of, journal_of, note_of, turn_of, flushing, flush_is, with_clients}
 use Rattle.records.specs.Shape.{no_client, Stands}
-use Rattle.records.specs.declared.records.CellRecord.{CellRecord}
 use Rattle.records.specs.declared.records.ClientRecord.{ClientRecord}
-use Rattle.records.specs.declared.table.Table.{Table}
-use Rattle.records.proofs.Told.{asked_out, asked_in, changed_out, changed_in}
+use Rattle.records.specs.declared.table.Table.TheInside.{Inside}
+use Rattle.records.proofs.Told.{asked_in, changed_in, changed_out}
 
--- the record at a place of the table
-abbrev pub client : Table → ℕ → ClientRecord
-client t p = get_or t.clients p no_client
+-- an item that is lent, copied
+pub item_copied : {X : Type 0} (xs : List X) (i : ℕ) (r : Option (Bor X)) → IsItemAt xs i r → option_copied r ≡ slice_get xs i
+item_copied xs i None h = sym (slice_get_past xs i (grind arith))
+item_copied xs i (Some x) h = let l : i < length xs = grind arith in sym (slice_get-get_or xs i x.now l ∙ grind arith)
 
-module _ (t : Table) (k : ℕ) (s : Stands k None) where
-  pub joined_out : {X : Type 0} (f : ClientRecord → Option X) → None ≡ joined (asked f t.clients k)
-  joined_out f = sym (ap joined (asked_out f t.clients k t.eight s))
+-- a question to client k's record is one to the record that was found
+asked_as : {X : Type 0} (f : ClientRecord → X) (cs : List ClientRecord) (k : ℕ) → asked f cs k ≡ option_map f (asked (λ c. c) cs k)
+asked_as f [] k = refl
+asked_as f (c ∷ cs) zero = refl
+asked_as f (c ∷ cs) (suc zero) = refl
+asked_as f (c ∷ cs) (suc (suc k)) = asked_as f cs (suc k)
 
-  pub value_out : {X : Type 0} (f : ClientRecord → X) (d : X) → d ≡ unwrap_or (asked f t.clients k) d
-  value_out f d = sym (ap (λ o. unwrap_or o d) (asked_out f t.clients k t.eight s))
+module _ (t : Records) (k : ℕ) (o : Option (Bor ClientRecord)) (e : option_copied o ≡ client_of t k) where
+  -- what is asked of client k's record, by the record that was found
+  found_as : {X : Type 0} (f : ClientRecord → X) → option_map f (option_copied o) ≡ asked f t.clients k
+  found_as f = ap (option_map f) e ∙ sym (asked_as f t.clients k)
 
-  pub cell_out : (i : ℕ) → None ≡ cell_of (records t) k i
+  pub cell_found : (i : ℕ) → joined (option_map (λ c. slice_get c.cells i) (option_copied o)) ≡ cell_of t k i
   unfolding cell_of
-  cell_out i = joined_out (λ c. slice_get c.cells i)
+  cell_found i = ap joined (found_as (λ c. slice_get c.cells i))
 
-  pub journal_out : None ≡ journal_of (records t) k
+  pub journal_found : joined (option_map (λ c. c.journal) (option_copied o)) ≡ journal_of t k
   unfolding journal_of
-  journal_out = joined_out (λ c. c.journal)
+  journal_found = ap joined (found_as (λ c. c.journal))
 
-  pub note_out : None ≡ note_of (records t) k
+  pub note_found : joined (option_map (λ c. c.note) (option_copied o)) ≡ note_of t k
   unfolding note_of
-  note_out = joined_out (λ c. c.note)
+  note_found = ap joined (found_as (λ c. c.note))
 
-  pub turn_out : 0 ≡ turn_of (records t) k
+  pub turn_found : unwrap_or (option_map (λ c. c.turn) (option_copied o)) 0 ≡ turn_of t k
   unfolding turn_of
-  turn_out = value_out (λ c. c.turn) 0
+  turn_found = ap (λ x. unwrap_or x 0) (found_as (λ c. c.turn))
 
-  pub flushing_out : (i turn : ℕ) → false ≡ flushing (records t) k i turn
+  pub flushing_found : (i turn : ℕ) → unwrap_or (option_map (λ c. flush_is c i turn) (option_copied o)) false ≡ flushing t k i turn
   unfolding flushing
-  flushing_out i turn = value_out (λ c. flush_is c i turn) false
+  flushing_found i turn = ap (λ x. unwrap_or x false) (found_as (λ c. flush_is c i turn))
 
-  pub change_out : (f : ClientRecord → ClientRecord) → records t ≡ with_clients (records t) (changed f t.clients k)
-  change_out f = ap (with_clients (records t)) (sym (changed_out f t.clients k t.eight s))
+-- changes of client k's record, at its place in the table's fields; t is what these are seen as
+module _ (u : Inside) (t : Records) (k p : ℕ) (v : records u ≡ t) (s : Stands t.clients k (Some p)) where
+  pub client_in : Some (get_or u.clients p no_client) ≡ client_of t k
+  client_in = ap (λ (t : Records). Some (get_or t.clients p no_client)) v ∙ asked_in t.clients k (λ c. c) p no_client s
 
-module _ (t : Table) (k p : ℕ) (s : Stands k (Some p)) where
-  pub width : length (client t p).cells ≡ 1024
-  width = t.wide p s.1
+  pub change_in : (f : ClientRecord → ClientRecord) (x : ClientRecord) → x ≡ f (get_or u.clients p no_client) → with_clients (records u) (set u.clients p x) ≡ with_clients t (changed f t.clients k)
+  change_in f x e =
+      ap (λ y. with_clients (records u) (set u.clients p y)) e
+      ∙ ap (λ (t : Records). with_clients t (set t.clients p (f (get_or t.clients p no_client)))) v
+      ∙ ap (with_clients t) (changed_in t.clients k f p no_client s)
 
-  pub joined_in : {X : Type 0} (f : ClientRecord → Option X) → f (client t p) ≡ joined (asked f t.clients k)
-  joined_in f = sym (ap joined (asked_in f t.clients k t.eight p no_client s))
-
-  pub value_in : {X : Type 0} (f : ClientRecord → X) (d : X) → f (client t p) ≡ unwrap_or (asked f t.clients k) d
-  value_in f d = sym (ap (λ o. unwrap_or o d) (asked_in f t.clients k t.eight p no_client s))
-
-  pub cell_in : (i : ℕ) → i < 1024 → Some (get_or (client t p).cells i new_cell) ≡ cell_of (records t) k i
-  unfolding cell_of
-  cell_in i l = sym (slice_get-get_or (client t p).cells i new_cell (omega (arith, width))) ∙ joined_in (λ c. slice_get c.cells i)
-
-  pub cell_past : (i : ℕ) → 1024 ≤ i → None ≡ cell_of (records t) k i
-  unfolding cell_of
-  cell_past i l = sym (slice_get_past (client t p).cells i (omega (arith, width))) ∙ joined_in (λ c. slice_get c.cells i)
-
-  pub journal_in : (client t p).journal ≡ journal_of (records t) k
-  unfolding journal_of
-  journal_in = joined_in (λ c. c.journal)
-
-  pub note_in : (client t p).note ≡ note_of (records t) k
-  unfolding note_of
-  note_in = joined_in (λ c. c.note)
-
-  pub turn_in : (client t p).turn ≡ turn_of (records t) k
-  unfolding turn_of
-  turn_in = value_in (λ c. c.turn) 0
-
-  pub flushing_in : (i turn : ℕ) → flush_is (client t p) i turn ≡ flushing (records t) k i turn
-  unfolding flushing
-  flushing_in i turn = value_in (λ c. flush_is c i turn) false
-
-  pub change_in : (f : ClientRecord → ClientRecord) → with_clients (records t) (set t.clients p (f (client t p))) ≡ with_clients (records t) (changed f t.clients k)
-  change_in f = ap (with_clients (records t)) (sym (changed_in f t.clients k t.eight p no_client s))
-
-  -- a change that leaves the client's record as it is
-  pub change_nothing : (f : ClientRecord → ClientRecord) → f (client t p) ≡ client t p → records t ≡ with_clients (records t) (changed f t.clients k)
-  change_nothing f e =
-      ap (with_clients (records t)) (sym (set-get_or t.clients p no_client) ∙ ap (set t.clients p) (sym e))
-      ∙ change_in f
-
-  -- a write to a cell that the client's record has not
-  pub write_past : (i : ℕ) (r : CellRecord) → 1024 ≤ i → set (client t p).cells i r ≡ (client t p).cells
-  write_past i r l = set_past (client t p).cells i r (omega (arith, width))
+-- a client that the table has not
+pub change_out : (t : Records) (k : ℕ) → Stands t.clients k None → (f : ClientRecord → ClientRecord) → t ≡ with_clients t (changed f t.clients k)
+change_out t k s f = ap (with_clients t) (sym (changed_out t.clients k f s))
 
 -- a search's first number, and its end
 pub first_none : (f : ℕ → Bool) (n i : ℕ) → n ≡ 0 → first_from f n i ≡ None

@@ -6,4 +6,3 @@ pub mod Means
 pub mod Questions
 pub mod Records
 pub mod Shape
-pub mod Steps

@@ -38,6 +38,10 @@ abbrev pub is_none : {X : Type 0} → Option X → Bool
 is_none None = true
 is_none (Some x) = false
 
+-- client k's record, if there is one
+abbrev pub client_of : Records → ℕ → Option ClientRecord
+client_of t k = asked (λ c. c) t.clients k
+
 -- what client k's record says: of cell i; which cell is in the journal; the note; and the turn, which counts the flushes begun
 unfoldable pub cell_of : Records → ℕ → ℕ → Option CellRecord
 cell_of t k i = joined (asked (λ c. slice_get c.cells i) t.clients k)

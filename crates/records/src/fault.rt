@@ -1,7 +1,8 @@
 // Why a site is unfit, and why it refuses.
-ghost use Rattle.std.specs.Prelude.{◌≡◌};
+ghost use Rattle.std.specs.Prelude.{◌≡◌, ◌++◌, Some, codes, decimal};
 ghost use Rattle.records.specs.Faults.{unfit_number, store_number, says};
 
+use std::fmt;
 use store::Fault;
 
 // The first no at the making of a site.
@@ -58,12 +59,12 @@ pub enum SiteFault {
     NoCall,
 }
 
-impl Unfit {
-    // The number of the question that got the no.
-    pub fn number(self) -> u8
-        ensures { result ≡ unfit_number self }
-    {
-        match self {
+// The number of the question that got the no.
+impl From<Unfit> for u8 {
+    ghost from_gives = { λ unfit n. n ≡ unfit_number unfit };
+
+    fn from(unfit: Unfit) -> u8 {
+        match unfit {
             Unfit::DiskSize => 1,
             Unfit::MarksSize => 2,
             Unfit::ClientCount => 3,
@@ -74,11 +75,12 @@ impl Unfit {
     }
 }
 
-impl StoreName {
-    pub fn number(self) -> u8
-        ensures { result ≡ store_number self }
-    {
-        match self {
+// The number of the question whether that store accepted.
+impl From<StoreName> for u8 {
+    ghost from_gives = { λ store n. n ≡ store_number store };
+
+    fn from(store: StoreName) -> u8 {
+        match store {
             StoreName::Local => 18,
             StoreName::Marks => 19,
             StoreName::Disk => 20,
@@ -86,12 +88,12 @@ impl StoreName {
     }
 }
 
-impl SiteFault {
-    // The number of the question that got the no.
-    pub fn number(self) -> u8
-        ensures { result ≡ (says self).number }
-    {
-        match self {
+// The number of the question that got the no.
+impl From<SiteFault> for u8 {
+    ghost from_gives = { λ fault n. n ≡ (says fault).number };
+
+    fn from(fault: SiteFault) -> u8 {
+        match fault {
             SiteFault::Unfit => 7,
             SiteFault::NoClient => 8,
             SiteFault::Held => 9,
@@ -103,12 +105,23 @@ impl SiteFault {
             SiteFault::TurnsUsed => 15,
             SiteFault::NoFlush => 16,
             SiteFault::Unsent(_) => 17,
-            SiteFault::Store(f) => f.store.number(),
+            SiteFault::Store(f) => f.store.into(),
             SiteFault::RowsUnequal => 23,
             SiteFault::NoCall => 24,
         }
     }
+}
 
+// As programs print a refusal.
+impl fmt::Display for SiteFault {
+    ghost output = { λ fault. Some (codes "refused by " ++ decimal (says fault).number) };
+
+    fn fmt<W: fmt::Write>(&self, f: &mut fmt::Formatter<W>) -> fmt::Result {
+        write!(f, "refused by {}", u8::from(*self))
+    }
+}
+
+impl SiteFault {
     // The place that the refusal names itself, if it names one.
     pub fn place(self) -> Option<u32>
         ensures { result ≡ (says self).place }

@@ -2,7 +2,7 @@
 
 // What a client knows of a cell: absent, or kept with a mark (the session in which the server's cell was
 // last written); whether it is checked against the server in this session; whether it is dirty.
-#[derive(Clone, Copy)]
+#[derive(Clone, Copy, Default)]
 pub struct CellRecord {
     pub kept: Option<u32>,
     pub checked: bool,

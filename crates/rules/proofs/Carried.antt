@@ -6,7 +6,8 @@ use Rattle.rules.specs.Replies.{Open, Read, Write, Begin, Commit, GiveUp, Close,
 use Rattle.rules.specs.Carry.{Continues}
 use Rattle.records.specs.declared.records.Flush.{Flush}
 use Rattle.records.specs.declared.fault.SiteFault.{SiteFault}
-use Rattle.rules.specs.declared.answer.Swept.{Swept}
+use Rattle.rules.specs.declared.answer.Source.{Source}
+use Rattle.rules.specs.declared.answer.Stopped.{Stopped}
 use Rattle.rules.proofs.Theorem.{continues}
 
 module _ {V : Type 0} (blank : V) (s s' : State V) where
@@ -14,7 +15,7 @@ module _ {V : Type 0} (blank : V) (s s' : State V) where
   unfolding called
   open_carried k r e = continues blank s (Open k) s' (open_reply r) (ap (replied open_reply) e)
 
-  pub read_carried : (k i : ℕ) (r : Result (V × ℕ) SiteFault) → outcome s' r ≡ read_call s k i → Continues blank s (Read k i) s' (read_reply i r)
+  pub read_carried : (k i : ℕ) (r : Result (V × Source) SiteFault) → outcome s' r ≡ read_call s k i → Continues blank s (Read k i) s' (read_reply i r)
   unfolding called
   read_carried k i r e = continues blank s (Read k i) s' (read_reply i r) (ap (replied (read_reply i)) e)
 
@@ -38,7 +39,7 @@ module _ {V : Type 0} (blank : V) (s s' : State V) where
   unfolding called
   close_carried k r e = continues blank s (Close k) s' (plain_reply 0 r) (ap (replied (plain_reply 0)) e)
 
-  pub invalidate_carried : (k : ℕ) (r : Swept) → sweeping s' r ≡ invalidate_call s k → Continues blank s (Invalidate k) s' (swept_reply r)
+  pub invalidate_carried : (k : ℕ) (r : Result ℕ Stopped) → sweeping s' r ≡ invalidate_call s k → Continues blank s (Invalidate k) s' (swept_reply r)
   unfolding called
   invalidate_carried k r e = continues blank s (Invalidate k) s' (swept_reply r) (ap swept_out e)
 

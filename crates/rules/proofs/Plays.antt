@@ -7,7 +7,9 @@ use Rattle.records.specs.Questions.{admitted}
 use Rattle.store.specs.Stores.{stored}
 use Rattle.rules.specs.Site.{State, Outcome, with_marks, with_disk}
 use Rattle.rules.specs.Calls.{read_call, read_local, read_confirmed, read_fetched}
-use Rattle.rules.specs.Replies.{Call, Reply, Out, open_reply, read_reply, noted_reply, plain_reply, stopped_reply, called}
+use Rattle.rules.specs.declared.answer.Source.{Source}
+use Rattle.rules.specs.declared.answer.Stopped.{Stopped}
+use Rattle.rules.specs.Replies.{Call, Reply, Out, open_reply, read_reply, noted_reply, plain_reply, swept_reply, called}
 use Rattle.rules.specs.Runs.{Rows, call_of, calls_of, equally_long, Running, running, put_got, filled, run_from, run_calls, ran}
 use Rattle.rules.specs.History.{Entry, Act, single, run, logged, shown, row_log, acted, act_log, after, log}
 use Rattle.rules.specs.declared.step.Step.{Step}
@@ -111,15 +113,15 @@ module _ {V : Type 0} (blank : V) where
   noted_shows i (Ok x) g = refl
   noted_shows i (Err e) g = refl
 
-  swept_shows : (p n : ℕ) (e : Option SiteFault) → Shows (stopped_reply p n e)
-  swept_shows p n None g = refl
-  swept_shows p n (Some e) g = refl
+  swept_shows : (r : Result ℕ Stopped) → Shows (swept_reply r)
+  swept_shows (Ok n) g = refl
+  swept_shows (Err x) g = refl
 
   -- an accepted read has a source
   read_shows : (s : State V) (k i : ℕ) → Shows (read_reply i (read_call s k i).answer)
   unfolding read_local read_confirmed read_fetched
   read_shows s k i g =
-      let P : Outcome V (V × ℕ) → Type 0 = λ o. shown (read_reply i o.answer).answer (unwrap_or (read_reply i o.answer).got g) ≡ read_reply i o.answer in
+      let P : Outcome V (V × Source) → Type 0 = λ o. shown (read_reply i o.answer).answer (unwrap_or (read_reply i o.answer).got g) ≡ read_reply i o.answer in
       followed P s (admitted s.table k i) _ (λ e. refl) λ r _.
       chosen P (settled r (is_in_journal s.table k i)) _ _
       (λ _. by_local_read P s k i blank _ (λ e. refl) (λ l ls rel. refl))
@@ -143,7 +145,7 @@ module _ {V : Type 0} (blank : V) where
       chosen P (eqb p.call 5) _ _ (λ _. plain_shows _ _) λ _.
       chosen P (eqb p.call 6) _ _ (λ _. plain_shows _ _) λ _.
       chosen P (eqb p.call 7) _ _ (λ _. plain_shows _ _) λ _.
-      chosen P (eqb p.call 8) _ _ (λ _. swept_shows _ _ _) λ _.
+      chosen P (eqb p.call 8) _ _ (λ _. swept_shows _) λ _.
       chosen P (eqb p.call 9) _ _ (λ _. plain_shows _ _) λ _.
       chosen P (eqb p.call 10) _ _ (λ _. plain_shows _ _) λ _ g. refl
 

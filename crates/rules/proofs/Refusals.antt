@@ -11,7 +11,9 @@ use Rattle.records.specs.Questions.{and_then, unless, there, present, holding, a
 use Rattle.records.specs.Questions as questions
 use Rattle.rules.specs.Site.{State, Outcome, outcome, next, with_table, with_disk, with_locals, disk_read, disk_write, mark_read, mark_write, local_read, local_write}
 use Rattle.rules.specs.Calls.{open_call, read_local, read_confirmed, read_fetched, read_call, write_call, begin_call, commit_call, give_up_call, close_call, sweep_record, sweep_cell, Sweeping, sweep_more, sweep_from, sweep_admitted, invalidate_call, restart_client_call, restart_server_call, with_note_of, begin_step, returned, commit_taken, commit_step, give_up_step}
-use Rattle.rules.specs.Replies.{Call, Open, Read, Write, Begin, Commit, GiveUp, Close, Invalidate, RestartClient, RestartServer, BeginStep, CommitStep, GiveUpStep, NoStep, Reply, Out, replied, open_reply, read_reply, begin_reply, noted_reply, plain_reply, stopped_reply, swept_out, called}
+use Rattle.rules.specs.declared.answer.Source.{Source}
+use Rattle.rules.specs.declared.answer.Stopped.{Stopped}
+use Rattle.rules.specs.Replies.{Call, Open, Read, Write, Begin, Commit, GiveUp, Close, Invalidate, RestartClient, RestartServer, BeginStep, CommitStep, GiveUpStep, NoStep, Reply, Out, replied, open_reply, read_reply, begin_reply, noted_reply, plain_reply, swept_reply, swept_out, called}
 use Rattle.rules.specs.Claim.{Asking, nobody, of_client, of_cell, asking, IsThere, Rightly}
 use Rattle.records.specs.declared.records.CellRecord.{CellRecord}
 use Rattle.records.specs.declared.records.Flush.{Flush}
@@ -52,9 +54,9 @@ taken_is : (o : Option Flush) (n : Flush) → taken_up o ≡ Ok n → o ≡ Some
 taken_is None n e = let z : ◌≡◌ {A = ℕ} 0 1 = cc in absurd (omega arith)
 taken_is (Some x) n e = cc
 
-abbrev fault_num : Option SiteFault → ℕ
-fault_num None = 0
-fault_num (Some e) = (says e).number
+abbrev stop_num : Result ℕ Stopped → ℕ
+stop_num (Ok n) = 0
+stop_num (Err x) = (says x.fault).number
 
 module _ (V : Type 0) where
   -- the number of a reply is that of its outcome
@@ -62,7 +64,7 @@ module _ (V : Type 0) where
   open_num (Ok x) = refl
   open_num (Err e) = refl
 
-  read_num : (i : ℕ) (r : Result (V × ℕ) SiteFault) → (read_reply i r).answer.number ≡ num r
+  read_num : (i : ℕ) (r : Result (V × Source) SiteFault) → (read_reply i r).answer.number ≡ num r
   read_num i (Ok x) = refl
   read_num i (Err e) = refl
 
@@ -78,9 +80,9 @@ module _ (V : Type 0) where
   plain_num i (Ok x) = refl
   plain_num i (Err e) = refl
 
-  fault_of_num : (p v : ℕ) (e : Option SiteFault) → (stopped_reply {V = V} p v e).answer.number ≡ fault_num e
-  fault_of_num p v None = refl
-  fault_of_num p v (Some e) = refl
+  swept_num : (r : Result ℕ Stopped) → (swept_reply {V = V} r).answer.number ≡ stop_num r
+  swept_num (Ok n) = refl
+  swept_num (Err x) = refl
 
 -- a call of a client, or of one of its cells
 abbrev about : ℕ → Option ℕ → Asking
@@ -237,7 +239,7 @@ module _ {V : Type 0} where
           (λ _. (h, zero_clear))
 
   abbrev SafeSweep : Sweeping V → Type 0
-  SafeSweep o = Sound o.state × Clear (fault_num o.answer.fault)
+  SafeSweep o = Sound o.state × Clear (stop_num o.answer)
 
   sweep_safe : (n k i d : ℕ) (s : State V) → Sound s → SafeSweep (sweep_from k n s i d)
   unfolding sweep_from
@@ -259,7 +261,7 @@ module _ {V : Type 0} where
       by (Ok u) q x =
           let w = sweep_safe s.table.size k 0 0 s h in
           let o : Sweeping V = sweep_from k s.table.size s 0 0 in
-          let c : Clear (stopped_reply {V = V} o.answer.place o.answer.value o.answer.fault).answer.number = subst Clear (sym (fault_of_num V o.answer.place o.answer.value o.answer.fault)) w.1 in
+          let c : Clear (swept_reply {V = V} o.answer).answer.number = subst Clear (sym (swept_num V o.answer)) w.1 in
           (w.0, rightly s.table k None _ (((λ e. absurd (c.eight e)), (λ e. let z = x.0.1 e in absurd (omega arith))), c.twelve))
 
   present_exact : (s : State V) (k : ℕ) → Sound s → Exact s.table k None (num (present s.table k))

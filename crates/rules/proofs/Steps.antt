@@ -11,6 +11,7 @@ use Rattle.records.specs.Records.{names, is_none, cell_of, is_in_journal, unsent
 use Rattle.records.specs.Questions.{admitted, opening, beginning, committing, closing}
 use Rattle.rules.specs.Site.{State, Outcome, outcome, with_table, with_disk, with_marks, with_locals}
 use Rattle.rules.specs.Calls.{open_call, read_local, read_confirmed, read_fetched, read_call, write_call, begin_call, commit_call, give_up_call, close_call, sweep_cell, sweep_from, sweep_more, sweep_record, Sweeping, sweep_admitted, invalidate_call, restart_client_call, restart_server_call, with_note_of, begin_step, returned, commit_taken, commit_step, give_up_step}
+use Rattle.rules.specs.declared.answer.Source.{Source}
 use Rattle.rules.specs.Replies.{Out, out, refused, replied, open_reply, read_reply, begin_reply, noted_reply, plain_reply, plain, Reply, swept_out}
 use Rattle.rules.specs.Book.{Book, waiting, begun, after_sending, staged, entered, fed, Deed, reads, writes, begins, sends, other, put}
 use Rattle.rules.specs.Claim.{ReadRight}
@@ -339,7 +340,7 @@ module _ {V : Type 0} (blank : V) where
   unfolding read_local read_confirmed read_fetched
   read_fine s b c k i =
       let m : ℕ = s.table.size in
-      let P : Outcome V (V × ℕ) → Type 0 = λ o. Fine m b (reads k) (replied (read_reply k) o) in
+      let P : Outcome V (V × Source) → Type 0 = λ o. Fine m b (reads k) (replied (read_reply k) o) in
       followed P s (admitted s.table c k) _ (λ e. bad e k 0 refl i) λ x a.
       let y = admitted_says s.table c k x a in
       let mine : names s.table.holder c ≡ true = y.0 in

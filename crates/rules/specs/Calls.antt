@@ -9,38 +9,40 @@ use Rattle.rules.specs.Site.{State, Outcome, outcome, ◌then◌, with_table, wi
 use Rattle.records.specs.declared.records.CellRecord.{CellRecord}
 use Rattle.records.specs.declared.records.Flush.{Flush}
 use Rattle.records.specs.declared.fault.SiteFault.{SiteFault}
-use Rattle.rules.specs.declared.answer.Swept.{Swept}
+use Rattle.rules.specs.declared.answer.Source.{Source}
+use Rattle.rules.specs.declared.answer.Source.TheVariants.{Cached, Checked, Fetched}
+use Rattle.rules.specs.declared.answer.Stopped.{Stopped}
 
 -- 1: the session is raised by 1 and given to client k, whose cells become unchecked
 abbrev pub open_call : {V : Type 0} → State V → ℕ → Outcome V ℕ
 open_call s k = outcome s (opening s.table k) then λ s₁ n. outcome (with_table s₁ (opened s₁.table k n)) (Ok n)
 
 -- the cell read, and its source
-abbrev pub got : {V : Type 0} → State V → V → ℕ → Outcome V (V × ℕ)
+abbrev pub got : {V : Type 0} → State V → V → Source → Outcome V (V × Source)
 got s v source = outcome s (Ok (v, source))
 
 -- the local copy counts: it is read
-unfoldable pub read_local : {V : Type 0} → State V → ℕ → ℕ → Outcome V (V × ℕ)
-read_local s k i = local_read s k i then λ s₁ v. got s₁ v 1
+unfoldable pub read_local : {V : Type 0} → State V → ℕ → ℕ → Outcome V (V × Source)
+read_local s k i = local_read s k i then λ s₁ v. got s₁ v Cached
 
 -- the copy is as new as the server's mark: it is read, and the cell's record becomes r
-unfoldable pub read_confirmed : {V : Type 0} → State V → ℕ → ℕ → CellRecord → Outcome V (V × ℕ)
-read_confirmed s k i r = local_read s k i then λ s₁ v. got (with_table s₁ (with_cell s₁.table k i r)) v 2
+unfoldable pub read_confirmed : {V : Type 0} → State V → ℕ → ℕ → CellRecord → Outcome V (V × Source)
+read_confirmed s k i r = local_read s k i then λ s₁ v. got (with_table s₁ (with_cell s₁.table k i r)) v Checked
 
 -- the disk cell is read and written to the local cell, and the cell's record becomes r
-unfoldable pub read_fetched : {V : Type 0} → State V → ℕ → ℕ → CellRecord → Outcome V (V × ℕ)
+unfoldable pub read_fetched : {V : Type 0} → State V → ℕ → ℕ → CellRecord → Outcome V (V × Source)
 read_fetched s k i r =
     disk_read s i then λ s₁ v.
-    (local_write s₁ k i v then λ s₂ _. got (with_table s₂ (with_cell s₂.table k i r)) v 3)
+    (local_write s₁ k i v then λ s₂ _. got (with_table s₂ (with_cell s₂.table k i r)) v Fetched)
 
 -- the mark is read at the server; a kept cell with a mark not below it becomes checked, any other is fetched and kept with it
-abbrev pub read_asked : {V : Type 0} → State V → ℕ → ℕ → CellRecord → Outcome V (V × ℕ)
+abbrev pub read_asked : {V : Type 0} → State V → ℕ → ℕ → CellRecord → Outcome V (V × Source)
 read_asked s k i r =
     mark_read s i then λ s₁ mark.
     cond (fresh r.kept mark) (read_confirmed s₁ k i (marked r r.kept)) (read_fetched s₁ k i (marked r (Some mark)))
 
 -- 2: a cell that is dirty, in the journal, or kept and checked is read from the local store; else the server's mark decides
-abbrev pub read_call : {V : Type 0} → State V → ℕ → ℕ → Outcome V (V × ℕ)
+abbrev pub read_call : {V : Type 0} → State V → ℕ → ℕ → Outcome V (V × Source)
 read_call s k i =
     outcome s (admitted s.table k i) then λ s₁ r.
     cond (settled r (is_in_journal s₁.table k i)) (read_local s₁ k i) (read_asked s₁ k i r)
@@ -96,31 +98,31 @@ sweep_record s k i (Some r) = cond (sweeps r (is_in_journal s.table k i)) (sweep
 unfoldable pub sweep_cell : {V : Type 0} → State V → ℕ → ℕ → Outcome V Bool
 sweep_cell s k i = sweep_record s k i (cell_of s.table k i)
 
--- what a sweep leaves and answers
+-- what a sweep leaves, and the count of cells made absent; or why and where it stopped, with the count so far
 pub record Sweeping (V : Type 0) : Type 0 where
   pub state : State V
-  pub answer : Swept
+  pub answer : Result ℕ Stopped
 
-abbrev pub sweeping : {V : Type 0} → State V → Swept → Sweeping V
+abbrev pub sweeping : {V : Type 0} → State V → Result ℕ Stopped → Sweeping V
 sweeping s a = record { state = s; answer = a }
 
-abbrev pub swept : {V : Type 0} → State V → Option SiteFault → ℕ → ℕ → Sweeping V
-swept s e place value = sweeping s (record { fault = e; place = place; value = value })
+abbrev pub stopped : {V : Type 0} → State V → SiteFault → ℕ → ℕ → Sweeping V
+stopped s e place value = sweeping s (Err (record { fault = e; place = place; value = value }))
 
 -- after cell i, with d made absent so far: a refused mark read ends the sweep there, and what is done stands
 abbrev pub sweep_more : {V : Type 0} → (State V → ℕ → ℕ → Sweeping V) → State V → Result Bool SiteFault → ℕ → ℕ → Sweeping V
 sweep_more rest s (Ok b) i d = rest s (i + 1) (d + cond b 1 0)
-sweep_more rest s (Err e) i d = swept s (Some e) i d
+sweep_more rest s (Err e) i d = stopped s e i d
 
 -- n more cells from cell i on
 unfoldable pub sweep_from : {V : Type 0} → ℕ → ℕ → State V → ℕ → ℕ → Sweeping V
-sweep_from k zero s i d = swept s None 0 d
+sweep_from k zero s i d = sweeping s (Ok d)
 sweep_from k (suc n) s i d = sweep_more (sweep_from k n) (sweep_cell s k i).state (sweep_cell s k i).answer i d
 
 -- where the questions are a yes, all cells from 0
 abbrev pub sweep_admitted : {V : Type 0} → State V → ℕ → Result (Unit {0}) SiteFault → Sweeping V
 sweep_admitted s k (Ok _) = sweep_from k s.table.size s 0 0
-sweep_admitted s k (Err e) = swept s (Some e) 0 0
+sweep_admitted s k (Err e) = stopped s e 0 0
 
 -- 8: 7, 8 and 11 are asked, and the cells swept
 abbrev pub invalidate_call : {V : Type 0} → State V → ℕ → Sweeping V

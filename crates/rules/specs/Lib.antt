@@ -1,4 +1,5 @@
 pub mod Site
+pub mod Sources
 pub mod Making
 pub mod Calls
 pub mod Replies

@@ -1,21 +1,48 @@
 // What is answered.
+ghost use Rattle.std.specs.Prelude.{◌≡◌};
+ghost use Rattle.rules.specs.Sources.{source_number};
+
 use records::fault::{SiteFault, StoreFault};
 
-// The answer to a call: 0 or the refusal's number; the cell that it is about; a session, a turn or a count;
-// where a read's cell came from (1 the local copy, 2 the copy once checked, 3 the disk); a store's fault.
+// Where a read's cell came from.
 #[derive(Clone, Copy)]
+pub enum Source {
+    // the local copy as it stood
+    Cached,
+    // the local copy, once checked against the server's mark
+    Checked,
+    // the disk
+    Fetched,
+}
+
+// The number under which the source is reported.
+impl From<Source> for u8 {
+    ghost from_gives = { λ source n. n ≡ source_number source };
+
+    fn from(source: Source) -> u8 {
+        match source {
+            Source::Cached => 1,
+            Source::Checked => 2,
+            Source::Fetched => 3,
+        }
+    }
+}
+
+// The answer to a call: 0 or the refusal's number; the cell that it is about; a session, a turn or a count;
+// at an accepted read where its cell came from; a store's fault.
+#[derive(Clone, Copy, Default)]
 pub struct Answer {
     pub number: u8,
     pub place: u32,
     pub value: u32,
-    pub source: u8,
+    pub source: Option<Source>,
     pub fault: Option<StoreFault>,
 }
 
-// What a sweep gives: its refusal, the cell at which it stopped, and how many cells it made absent.
+// A sweep that was refused or stopped: why, the cell at which it stopped, and how many cells it had made absent.
 #[derive(Clone, Copy)]
-pub struct Swept {
-    pub fault: Option<SiteFault>,
+pub struct Stopped {
+    pub fault: SiteFault,
     pub place: u32,
     pub value: u32,
 }

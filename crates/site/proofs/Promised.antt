@@ -1,15 +1,16 @@
 -- A call that leaves and answers what the rules say keeps what it promises.
-use Rattle.std.proofs.Common.{◌≡◌, ℕ, Ok, Err, Result, refl, ap, ◌∙◌}
+use Rattle.std.proofs.Common.{◌≡◌, ℕ, Ok, Err, Result, sym, refl, ap, ◌∙◌, subst}
 use Rattle.records.specs.declared.records.Flush.{Flush}
 use Rattle.records.specs.declared.fault.SiteFault.{SiteFault}
 use Rattle.rules.specs.Site.{State, Outcome, outcome}
 use Rattle.rules.specs.Calls.{read_call, begin_call}
-use Rattle.rules.specs.Replies.{Begin, Commit, begin_reply, plain_reply}
+use Rattle.rules.specs.Replies.{Read, Begin, Commit, Reply, read_reply, begin_reply, plain_reply}
 use Rattle.rules.specs.Carry.{Continues}
-use Rattle.rules.proofs.Carried.{begin_carried, commit_carried}
+use Rattle.rules.specs.declared.answer.Source.{Source}
+use Rattle.rules.proofs.Carried.{read_carried, begin_carried, commit_carried}
 use Rattle.site.specs.declared.slip.Slip.{Slip}
 use Rattle.site.specs.declared.slip.Returned.{Returned}
-use Rattle.site.specs.Promises.{reading, source_of, cell_or, read_does}
+use Rattle.site.specs.Promises.{reading, source_of, cell_or, read_shown, read_does}
 use Rattle.site.specs.Slips.{slip_given, flush_given, begin_given, slip_back, fault_of, Settled, settled, commit_flush, commit_given}
 
 given_is : (r : Result Flush SiteFault) → flush_given (slip_given r) ≡ r
@@ -32,9 +33,20 @@ settled_is {V} blank s s' n r e =
     ∙ ap (outcome (commit_flush blank s n.flush).state) (back_is n (commit_flush blank s n.flush).answer)
 
 module _ {V : Type 0} (blank : V) (s s' : State V) where
-  pub read_promised : (k i : ℕ) (old : V) (r : Result (V × ℕ) SiteFault) → outcome s' r ≡ read_call s k i → reading s' (source_of r) (cell_or old r) ≡ read_does s k i old
+  pub read_promised : (k i : ℕ) (old : V) (r : Result (V × Source) SiteFault) → outcome s' r ≡ read_call s k i → reading s' (source_of r) (cell_or old r) ≡ read_does s k i old
   unfolding read_does
-  read_promised k i old r e = ap (λ (o : Outcome V (V × ℕ)). reading o.state (source_of o.answer) (cell_or old o.answer)) e
+  read_promised k i old r e = ap (λ (o : Outcome V (V × Source)). reading o.state (source_of o.answer) (cell_or old o.answer)) e
+
+  -- by what a read answered and left in the caller's cell
+  shown_is : (i : ℕ) (old : V) (r : Result (V × Source) SiteFault) → read_shown i (cell_or old r) (source_of r) ≡ read_reply i r
+  shown_is i old (Ok x) = refl
+  shown_is i old (Err e) = refl
+
+  pub read_upheld : (k i : ℕ) (old v : V) (a : Result Source SiteFault) (r : Result (V × Source) SiteFault) → a ≡ source_of r → v ≡ cell_or old r → outcome s' r ≡ read_call s k i
+      → Continues blank s (Read k i) s' (read_shown i v a)
+  read_upheld k i old v a r ea ev e =
+      subst (λ (x : Reply V). Continues blank s (Read k i) s' x)
+      (sym (ap (λ x. read_shown i x a) ev ∙ ap (read_shown i (cell_or old r)) ea ∙ shown_is i old r)) (read_carried blank s s' k i r e)
 
   pub begin_upheld : (k i : ℕ) (r : Result Slip SiteFault) → outcome s' r ≡ begin_given s k i → Continues blank s (Begin k i) s' (begin_reply i (flush_given r))
   begin_upheld k i r e = begin_carried blank s s' k i (flush_given r) (begun_is s s' k i r e)

@@ -8,7 +8,8 @@ use Rattle.rules.specs.Site.{State, Outcome, outcome, next}
 use Rattle.rules.specs.Calls.{open_call, read_call, write_call, begin_step, with_note_of, returned, commit_taken, give_up_call, close_call, sweeping, invalidate_call, restart_client_call, restart_server_call}
 use Rattle.rules.specs.Replies.{Call, Open, Read, Write, Close, Invalidate, RestartClient, RestartServer, BeginStep, CommitStep, GiveUpStep, NoStep, Reply, out, plain, refused, open_reply, read_reply, noted_reply, plain_reply, swept_reply, replied, swept_out, called}
 use Rattle.rules.specs.Runs.{call_of}
-use Rattle.rules.specs.declared.answer.Swept.{Swept}
+use Rattle.rules.specs.declared.answer.Source.{Source}
+use Rattle.rules.specs.declared.answer.Stopped.{Stopped}
 use Rattle.rules.specs.declared.step.Step.{Step}
 use Rattle.records.specs.declared.fault.SiteFault.TheVariants.{NoCall}
 use Rattle.site.specs.declared.slip.Slip.{Slip}
@@ -85,7 +86,7 @@ module _ {V : Type 0} (blank : V) (s s₁ : State V) (p : Step) (v : V) (a : Rep
   unfolding called
   open_stepped r is e w = ap (out s₁) w ∙ ap (replied open_reply) e ∙ sym (ap (λ n. called blank s (call_at n p v)) is)
 
-  pub read_stepped : (r : Result (V × ℕ) SiteFault) → p.call ≡ 2 → outcome s₁ r ≡ read_call s p.client p.cell → a ≡ read_reply p.cell r → out s₁ a ≡ called blank s (call_of p v)
+  pub read_stepped : (r : Result (V × Source) SiteFault) → p.call ≡ 2 → outcome s₁ r ≡ read_call s p.client p.cell → a ≡ read_reply p.cell r → out s₁ a ≡ called blank s (call_of p v)
   unfolding called
   read_stepped r is e w = ap (out s₁) w ∙ ap (replied (read_reply p.cell)) e ∙ sym (ap (λ n. called blank s (call_at n p v)) is)
 
@@ -109,7 +110,7 @@ module _ {V : Type 0} (blank : V) (s s₁ : State V) (p : Step) (v : V) (a : Rep
   unfolding called
   restart_server_stepped r is e w = ap (out s₁) w ∙ ap (replied (plain_reply 0)) e ∙ sym (ap (λ n. called blank s (call_at n p v)) is)
 
-  pub invalidate_stepped : (r : Swept) → p.call ≡ 8 → sweeping s₁ r ≡ invalidate_call s p.client → a ≡ swept_reply r → out s₁ a ≡ called blank s (call_of p v)
+  pub invalidate_stepped : (r : Result ℕ Stopped) → p.call ≡ 8 → sweeping s₁ r ≡ invalidate_call s p.client → a ≡ swept_reply r → out s₁ a ≡ called blank s (call_of p v)
   unfolding called
   invalidate_stepped r is e w = ap (out s₁) w ∙ ap swept_out e ∙ sym (ap (λ n. called blank s (call_at n p v)) is)
 

@@ -3,7 +3,6 @@ use Rattle.std.specs.Prelude.{ℕ}
 use Rattle.store.specs.Stores.{stored}
 use Rattle.store.specs.declared.store.Store.{Ghosts as StoreMeaning}
 use Rattle.bank.specs.declared.Bank.{Ghosts as BankMeaning}
-use Rattle.records.specs.Means.{records}
 use Rattle.rules.specs.Site.{State}
 use Rattle.site.specs.declared.site.Site.{Site}
 
@@ -12,7 +11,7 @@ site_state d m b s = record {
   disk = stored (d.cells s.disk) (d.life s.disk);
   marks = stored (m.cells s.marks) (m.life s.marks);
   locals = b.stores s.bank;
-  table = records s.table;
+  table = s.table;
 }
 
 -- what a site's stores stand on besides their cells and lives

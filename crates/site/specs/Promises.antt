@@ -5,29 +5,30 @@ use Rattle.records.specs.declared.fault.SiteFault.{SiteFault}
 use Rattle.rules.specs.Site.{State, Outcome}
 use Rattle.rules.specs.Calls.{open_call, read_call, write_call, give_up_call, close_call, Sweeping, invalidate_call, restart_client_call, restart_server_call}
 use Rattle.rules.specs.Replies.{Reply, read_reply}
+use Rattle.rules.specs.declared.answer.Source.{Source}
 use Rattle.site.specs.declared.slip.Slip.{Slip}
 use Rattle.site.specs.Slips.{begin_given, Settled, commit_given}
 
 -- what a read leaves, answers and puts into the caller's cell
 pub record Reading (V : Type 0) : Type 0 where
   pub state : State V
-  pub source : Result ℕ SiteFault
+  pub source : Result Source SiteFault
   pub into : V
 
-abbrev pub reading : {V : Type 0} → State V → Result ℕ SiteFault → V → Reading V
+abbrev pub reading : {V : Type 0} → State V → Result Source SiteFault → V → Reading V
 reading s r v = record { state = s; source = r; into = v }
 
-abbrev pub source_of : {V : Type 0} → Result (V × ℕ) SiteFault → Result ℕ SiteFault
+abbrev pub source_of : {V : Type 0} → Result (V × Source) SiteFault → Result Source SiteFault
 source_of (Ok x) = Ok x.1
 source_of (Err e) = Err e
 
 -- a refused read leaves the caller's cell as it was
-abbrev pub cell_or : {V : Type 0} → V → Result (V × ℕ) SiteFault → V
+abbrev pub cell_or : {V : Type 0} → V → Result (V × Source) SiteFault → V
 cell_or old (Ok x) = x.0
 cell_or old (Err e) = old
 
 -- the reply to a read of cell i that answered its source and put v into the caller's cell
-abbrev pub read_shown : {V : Type 0} → ℕ → V → Result ℕ SiteFault → Reply V
+abbrev pub read_shown : {V : Type 0} → ℕ → V → Result Source SiteFault → Reply V
 read_shown i v (Ok source) = read_reply i (Ok (v, source))
 read_shown i v (Err e) = read_reply i (Err e)
 

@@ -14,7 +14,7 @@ use crate::site::Site;
 use crate::slip::{Returned, Slip};
 use bank::Bank;
 use records::fault::SiteFault;
-use rules::answer::{Answer, Swept};
+use rules::answer::{Answer, Source, Stopped};
 use rules::step::Step;
 use store::{Cell, Store};
 
@@ -41,9 +41,8 @@ pub trait Calls {
         ensures upheld { Continues Self.Cell.Cell.empty (state self.old) (Open k) (state self.new) (open_reply result) }
         ensures kept { rest self.new ≡ rest self.old };
 
-    // Reads cell i for client k into `into`, and answers its source: 1 the local copy, 2 the copy once
-    // checked against the server's mark, 3 the disk. A refused read leaves `into` as it was.
-    fn read(&mut self, k: u32, i: u32, into: &mut Self::Cell) -> Result<u8, SiteFault>
+    // Reads cell i for client k into `into`, and answers its source. A refused read leaves `into` as it was.
+    fn read(&mut self, k: u32, i: u32, into: &mut Self::Cell) -> Result<Source, SiteFault>
         ensures call { reading (state self.new) result into.new ≡ read_does (state self.old) k i into.old }
         ensures upheld { Continues Self.Cell.Cell.empty (state self.old) (Read k i) (state self.new) (read_shown i into.new result) }
         ensures kept { rest self.new ≡ rest self.old };
@@ -80,8 +79,8 @@ pub trait Calls {
         ensures upheld { Continues Self.Cell.Cell.empty (state self.old) (Close k) (state self.new) (plain_reply 0 result) }
         ensures kept { rest self.new ≡ rest self.old };
 
-    // Holds client k's copies against the server's marks: those that are behind become absent.
-    fn invalidate(&mut self, k: u32) -> Swept
+    // Holds client k's copies against the server's marks: those that are behind become absent. Answers how many.
+    fn invalidate(&mut self, k: u32) -> Result<u32, Stopped>
         ensures call { sweeping (state self.new) result ≡ invalidate_does (state self.old) k }
         ensures upheld { Continues Self.Cell.Cell.empty (state self.old) (Invalidate k) (state self.new) (swept_reply result) }
         ensures kept { rest self.new ≡ rest self.old };
@@ -123,52 +122,59 @@ impl<D: Store, M: Store<Cell = u32>, B: Bank<Cell = D::Cell>> Calls for Site<D, 
 
     ghost rest = { site_rests D.Store M.Store B.Bank };
 
+    #[tactic(auto, using(rules::proofs::Carried::open_carried), unfolding(crate::specs::Promises::open_does))]
     fn open(&mut self, k: u32) -> Result<u32, SiteFault> {
         self.do_open(k)
     }
 
-    fn read(&mut self, k: u32, i: u32, into: &mut D::Cell) -> Result<u8, SiteFault> {
-        match self.do_read(k, i) {
-            Ok((v, source)) => {
-                *into = v;
-                Ok(source)
-            }
-            Err(fault) => Err(fault),
-        }
+    #[tactic(auto, unfolding(crate::specs::Promises::read_does))]
+    fn read(&mut self, k: u32, i: u32, into: &mut D::Cell) -> Result<Source, SiteFault> {
+        let (v, source) = self.do_read(k, i)?;
+        *into = v;
+        Ok(source)
     }
 
+    #[tactic(auto, using(rules::proofs::Carried::write_carried), unfolding(crate::specs::Promises::write_does))]
     fn write(&mut self, k: u32, i: u32, v: D::Cell) -> Result<(), SiteFault> {
         self.do_write(k, i, v)
     }
 
+    #[tactic(auto, using(crate::proofs::Promised::begin_upheld), unfolding(crate::specs::Promises::begin_does))]
     fn begin(&mut self, k: u32, i: u32) -> Result<Slip, SiteFault> {
         self.do_begin(k, i)
     }
 
+    #[tactic(auto, using(crate::proofs::Promised::commit_upheld), unfolding(crate::specs::Promises::commit_does))]
     fn commit(&mut self, slip: Slip) -> Result<(), Returned> {
         self.do_commit(slip)
     }
 
+    #[tactic(auto, using(rules::proofs::Carried::give_up_carried), unfolding(crate::specs::Promises::give_up_does))]
     fn give_up(&mut self, slip: Slip) -> Result<(), SiteFault> {
         self.do_give_up(slip)
     }
 
+    #[tactic(auto, using(rules::proofs::Carried::close_carried), unfolding(crate::specs::Promises::close_does))]
     fn close(&mut self, k: u32) -> Result<(), SiteFault> {
         self.do_close(k)
     }
 
-    fn invalidate(&mut self, k: u32) -> Swept {
+    #[tactic(auto, using(rules::proofs::Carried::invalidate_carried), unfolding(crate::specs::Promises::invalidate_does))]
+    fn invalidate(&mut self, k: u32) -> Result<u32, Stopped> {
         self.do_invalidate(k)
     }
 
+    #[tactic(auto, using(rules::proofs::Carried::restart_client_carried), unfolding(crate::specs::Promises::restart_client_does))]
     fn restart_client(&mut self, k: u32, n: u32) -> Result<(), SiteFault> {
         self.do_restart_client(k, n)
     }
 
+    #[tactic(auto, using(rules::proofs::Carried::restart_server_carried), unfolding(crate::specs::Promises::restart_server_does))]
     fn restart_server(&mut self, n: u32, m: u32) -> Result<(), SiteFault> {
         self.do_restart_server(n, m)
     }
 
+    #[tactic(auto, using(rules::proofs::Theorem::continues_run), unfolding(crate::specs::Steps::run_does))]
     fn run(
         &mut self,
         steps: &[Step],

@@ -5,7 +5,7 @@ ghost use Rattle.site.specs.Steps.{as_reply};
 
 use records::fault::SiteFault;
 use records::records::Flush;
-use rules::answer::{Answer, Swept};
+use rules::answer::{Answer, Source, Stopped};
 
 // A step's answer, and the cell that an accepted read got.
 #[derive(Clone, Copy)]
@@ -15,7 +15,7 @@ pub(crate) struct Done<C> {
 }
 
 // Accepted, about the cell `place`.
-fn accepted(place: u32, value: u32, source: u8) -> Answer
+fn accepted(place: u32, value: u32, source: Option<Source>) -> Answer
     ensures { result ≡ accepted place value source }
 {
     Answer {
@@ -32,10 +32,10 @@ fn refused(place: u32, value: u32, fault: SiteFault) -> Answer
     ensures { result ≡ refused place value fault }
 {
     Answer {
-        number: fault.number(),
+        number: fault.into(),
         place: fault.place().unwrap_or(place),
         value,
-        source: 0,
+        source: None,
         fault: fault.held(),
     }
 }
@@ -59,18 +59,18 @@ pub(crate) fn open_reply<C>(r: Result<u32, SiteFault>) -> Done<C>
     ensures { as_reply result ≡ open_reply r }
 {
     match r {
-        Ok(session) => plain(accepted(0, session, 0)),
+        Ok(session) => plain(accepted(0, session, None)),
         Err(fault) => plain(refused(0, 0, fault)),
     }
 }
 
 // A read's cell and its source.
-pub(crate) fn read_reply<C>(i: u32, r: Result<(C, u8), SiteFault>) -> Done<C>
+pub(crate) fn read_reply<C>(i: u32, r: Result<(C, Source), SiteFault>) -> Done<C>
     ensures { as_reply result ≡ read_reply i r }
 {
     match r {
         Ok((v, source)) => Done {
-            answer: accepted(i, 0, source),
+            answer: accepted(i, 0, Some(source)),
             got: Some(v),
         },
         Err(fault) => plain(refused(i, 0, fault)),
@@ -82,7 +82,7 @@ pub(crate) fn noted_reply<C>(i: u32, r: Result<Flush, SiteFault>) -> Done<C>
     ensures { as_reply result ≡ noted_reply i r }
 {
     match r {
-        Ok(flush) => plain(accepted(i, flush.turn, 0)),
+        Ok(flush) => plain(accepted(i, flush.turn, None)),
         Err(fault) => plain(refused(i, 0, fault)),
     }
 }
@@ -92,17 +92,17 @@ pub(crate) fn plain_reply<C>(i: u32, r: Result<(), SiteFault>) -> Done<C>
     ensures { as_reply result ≡ plain_reply i r }
 {
     match r {
-        Ok(()) => plain(accepted(i, 0, 0)),
+        Ok(()) => plain(accepted(i, 0, None)),
         Err(fault) => plain(refused(i, 0, fault)),
     }
 }
 
 // A sweep's value is the count of cells made absent, also where it stopped.
-pub(crate) fn swept_reply<C>(swept: Swept) -> Done<C>
-    ensures { as_reply result ≡ swept_reply swept }
+pub(crate) fn swept_reply<C>(r: Result<u32, Stopped>) -> Done<C>
+    ensures { as_reply result ≡ swept_reply r }
 {
-    match swept.fault {
-        None => plain(accepted(swept.place, swept.value, 0)),
-        Some(fault) => plain(refused(swept.place, swept.value, fault)),
+    match r {
+        Ok(count) => plain(accepted(0, count, None)),
+        Err(stopped) => plain(refused(stopped.place, stopped.value, stopped.fault)),
     }
 }

@@ -1,6 +1,5 @@
 // The questions that are asked of the records, in their order: the first no gives its refusal.
 ghost use Rattle.std.specs.Prelude.{◌≡◌};
-ghost use Rattle.records.specs.Means.{records};
 ghost use Rattle.records.specs.Records.{note_of, unsent_at};
 ghost use Rattle.records.specs.Questions.{fit, there, present, holding, admitted, opening, beginning, committing, giving_up, first_from, closing, taken_up, taking_to_commit, taking_to_give_up};
 
@@ -11,24 +10,24 @@ use crate::records::{CellRecord, Flush};
 impl Table {
     // Is the site fit?
     pub fn fit(&self) -> Result<(), SiteFault>
-        ensures { result ≡ fit (records self.now) }
+        ensures { result ≡ fit self.now }
     {
-        match self.unfit {
-            None => Ok(()),
-            Some(_) => Err(SiteFault::Unfit),
+        if self.unfit.is_some() {
+            return Err(SiteFault::Unfit);
         }
+        Ok(())
     }
 
     // Is client k there?
     fn is_there(&self, k: u32) -> bool
-        ensures { result ≡ there (records self.now) k }
+        ensures { result ≡ there self.now k }
     {
         0 < k && k <= self.count
     }
 
     // Is the site fit, and client k there?
     pub fn present(&self, k: u32) -> Result<(), SiteFault>
-        ensures { result ≡ present (records self.now) k }
+        ensures { result ≡ present self.now k }
     {
         self.fit()?;
         if !self.is_there(k) {
@@ -39,7 +38,7 @@ impl Table {
 
     // Is client k there, and does it hold the session?
     pub fn holding(&self, k: u32) -> Result<(), SiteFault>
-        ensures { result ≡ holding (records self.now) k }
+        ensures { result ≡ holding self.now k }
     {
         self.present(k)?;
         if !self.holds(k) {
@@ -50,35 +49,29 @@ impl Table {
 
     // Does client k hold, and is cell i below the number of cells? Gives the cell's record.
     pub fn admitted(&self, k: u32, i: u32) -> Result<CellRecord, SiteFault>
-        ensures { result ≡ admitted (records self.now) k i }
+        ensures { result ≡ admitted self.now k i }
     {
         self.holding(k)?;
         if i >= self.size {
             return Err(SiteFault::NoCell);
         }
-        match self.cell(k, i) {
-            None => Err(SiteFault::NoCell),
-            Some(r) => Ok(r),
-        }
+        self.cell(k, i).ok_or(SiteFault::NoCell)
     }
 
     // May client k open? Gives the next session.
     pub fn opening(&self, k: u32) -> Result<u32, SiteFault>
-        ensures { result ≡ opening (records self.now) k }
+        ensures { result ≡ opening self.now k }
     {
         self.present(k)?;
         if self.holder.is_some() {
             return Err(SiteFault::Held);
         }
-        match self.session.checked_add(1) {
-            None => Err(SiteFault::SessionsUsed),
-            Some(n) => Ok(n),
-        }
+        self.session.checked_add(1).ok_or(SiteFault::SessionsUsed)
     }
 
     // May client k begin a flush of cell i? Gives the cell's record and the next turn.
     pub fn beginning(&self, k: u32, i: u32) -> Result<(CellRecord, u32), SiteFault>
-        ensures { result ≡ beginning (records self.now) k i }
+        ensures { result ≡ beginning self.now k i }
     {
         let r = self.admitted(k, i)?;
         if self.journal(k).is_some() {
@@ -87,34 +80,33 @@ impl Table {
         if !r.dirty {
             return Err(SiteFault::NotDirty);
         }
-        match self.turn(k).checked_add(1) {
-            None => Err(SiteFault::TurnsUsed),
-            Some(n) => Ok((r, n)),
-        }
+        let turn = self.turn(k).checked_add(1).ok_or(SiteFault::TurnsUsed)?;
+        Ok((r, turn))
     }
 
-    // Is that flush in client k's journal? Whether k holds is not asked.
-    pub fn giving_up(&self, k: u32, i: u32, turn: u32) -> Result<(), SiteFault>
-        ensures { result ≡ giving_up (records self.now) k i turn }
+    // Is that flush in its client's journal? Whether the client holds is not asked.
+    pub fn giving_up(&self, flush: Flush) -> Result<(), SiteFault>
+        ensures { result ≡ giving_up self.now flush.client flush.cell flush.turn }
     {
-        if !self.flushing(k, i, turn) {
+        if !self.flushing(flush) {
             return Err(SiteFault::NoFlush);
         }
         Ok(())
     }
 
-    // Does client k hold, and is that flush in its journal?
-    pub fn committing(&self, k: u32, i: u32, turn: u32) -> Result<(), SiteFault>
-        ensures { result ≡ committing (records self.now) k i turn }
+    // Does the flush's client hold, and is that flush in its journal?
+    pub fn committing(&self, flush: Flush) -> Result<(), SiteFault>
+        ensures { result ≡ committing self.now flush.client flush.cell flush.turn }
     {
-        self.holding(k)?;
-        self.giving_up(k, i, turn)
+        self.holding(flush.client)?;
+        self.giving_up(flush)
     }
 
     // The first cell of client k that is dirty or in the journal.
     fn first_unsent(&self, k: u32) -> Option<u32>
-        ensures { result ≡ first_from (unsent_at (records self.now) k) self.now.size 0 }
+        ensures { result ≡ first_from (unsent_at self.now k) self.now.size 0 }
     {
+        // a `for`: of a `find` over the range the proof did not close
         for i in 0..self.size {
             if self.unsent(k, i) {
                 return Some(i);
@@ -125,7 +117,7 @@ impl Table {
 
     // May client k close: is nothing dirty, and the journal empty?
     pub fn closing(&self, k: u32) -> Result<(), SiteFault>
-        ensures { result ≡ closing (records self.now) k }
+        ensures { result ≡ closing self.now k }
     {
         self.holding(k)?;
         match self.first_unsent(k) {
@@ -136,17 +128,14 @@ impl Table {
 
     // The slip that client k has noted.
     fn taken_up(&self, k: u32) -> Result<Flush, SiteFault>
-        ensures { result ≡ taken_up (note_of (records self.now) k) }
+        ensures { result ≡ taken_up (note_of self.now k) }
     {
-        match self.noted(k) {
-            None => Err(SiteFault::NoFlush),
-            Some(n) => Ok(n),
-        }
+        self.noted(k).ok_or(SiteFault::NoFlush)
     }
 
     // A run's commit: does client k hold? Gives the slip that it has noted.
     pub fn taking_to_commit(&self, k: u32) -> Result<Flush, SiteFault>
-        ensures { result ≡ taking_to_commit (records self.now) k }
+        ensures { result ≡ taking_to_commit self.now k }
     {
         self.holding(k)?;
         self.taken_up(k)
@@ -154,7 +143,7 @@ impl Table {
 
     // A run's giving up: is client k there? Gives the slip that it has noted.
     pub fn taking_to_give_up(&self, k: u32) -> Result<Flush, SiteFault>
-        ensures { result ≡ taking_to_give_up (records self.now) k }
+        ensures { result ≡ taking_to_give_up self.now k }
     {
         self.present(k)?;
         self.taken_up(k)

@@ -1,156 +1,121 @@
 // What the table says of a client and a cell. Any numbers may be asked for.
 ghost use Rattle.std.specs.Prelude.{◌≡◌};
-ghost use Rattle.records.specs.Means.{records};
-ghost use Rattle.records.specs.Records.{new_records, cell_of, journal_of, note_of, turn_of, flush_is, flushing, is_in_journal, unsent_at, names};
+ghost use Rattle.records.specs.Records.{new_records, client_of, cell_of, journal_of, note_of, turn_of, flushing, is_in_journal, unsent_at, names};
 ghost use Rattle.records.specs.Shape.{Stands};
+ghost use Rattle.std.specs.Option.{option_copied};
 
 use super::Table;
 use crate::fault::Unfit;
 use crate::records::{CellRecord, ClientRecord, Flush};
 
-// Where the record of client k stands in the table.
-pub(super) fn place(k: u32) -> Option<usize>
-    ensures { Stands k result }
-{
-    if k == 0 || k > 8 {
-        return None;
-    }
-    Some(k as usize - 1)
-}
-
-impl ClientRecord {
-    // Whether a flush of that cell and turn is in the journal. (The turn is the how-manieth flush it is.)
-    fn is_flushing(&self, i: u32, turn: u32) -> bool
-        ensures { result ≡ flush_is self.now i turn }
-    {
-        match self.journal {
-            None => false,
-            Some(j) => j == i && self.turn == turn,
-        }
-    }
-}
-
 impl Table {
     // The records of a new site: nobody holds, and every cell is absent, unchecked and clean.
+    #[tactic(auto, unfolding(crate::specs::Records::new_clients))]
     pub fn new(unfit: Option<Unfit>, size: u32, count: u32, session: u32) -> Table
-        ensures { records result ≡ new_records unfit size count session }
+        ensures { result ≡ new_records unfit size count session }
     {
-        let cell = CellRecord {
-            kept: None,
-            checked: false,
-            dirty: false,
-        };
-        let client = ClientRecord {
-            cells: [cell; 1024],
-            journal: None,
-            turn: 0,
-            note: None,
-        };
         Table {
             unfit,
             size,
             count,
             session,
             holder: None,
-            clients: [client; 8],
+            clients: [ClientRecord::new(); 8],
         }
     }
 
     // Why the site is unfit, if it is.
     pub fn unfit(&self) -> Option<Unfit>
-        ensures { result ≡ (records self.now).unfit }
+        ensures { result ≡ self.now.unfit }
     {
         self.unfit
     }
 
     // The number of cells.
     pub fn size(&self) -> u32
-        ensures { result ≡ (records self.now).size }
+        ensures { result ≡ self.now.size }
     {
         self.size
     }
 
     // The latest session.
     pub fn session(&self) -> u32
-        ensures { result ≡ (records self.now).session }
+        ensures { result ≡ self.now.session }
     {
         self.session
     }
 
+    // Where the record of client k stands in the table, if it is there.
+    pub(super) fn place(&self, k: u32) -> Option<usize>
+        ensures { Stands self.now.clients k result }
+    {
+        let p = (k as usize).checked_sub(1)?;
+        self.clients.get(p)?;
+        Some(p)
+    }
+
+    // Client k's record, if the table has it.
+    fn client(&self, k: u32) -> Option<&ClientRecord>
+        ensures { option_copied result ≡ client_of self.now k }
+    {
+        let p = self.place(k)?;
+        Some(&self.clients[p])
+    }
+
     // What client k knows of cell i, if the table has them.
     pub fn cell(&self, k: u32, i: u32) -> Option<CellRecord>
-        ensures { result ≡ cell_of (records self.now) k i }
+        ensures { result ≡ cell_of self.now k i }
     {
-        let p = place(k)?;
-        if i >= 1024 {
-            return None;
-        }
-        Some(self.clients[p].cells[i as usize])
+        self.client(k)?.cells.get(i as usize).copied()
     }
 
     // The cell in client k's journal.
     pub fn journal(&self, k: u32) -> Option<u32>
-        ensures { result ≡ journal_of (records self.now) k }
+        ensures { result ≡ journal_of self.now k }
     {
-        let p = place(k)?;
-        self.clients[p].journal
+        self.client(k)?.journal
     }
 
     // Client k's note, a slip that a run has put aside. (A slip is the token that a begun flush gives out.)
     pub(super) fn noted(&self, k: u32) -> Option<Flush>
-        ensures { result ≡ note_of (records self.now) k }
+        ensures { result ≡ note_of self.now k }
     {
-        let p = place(k)?;
-        self.clients[p].note
+        self.client(k)?.note
     }
 
     // Client k's turn: how many flushes it has begun.
     pub(super) fn turn(&self, k: u32) -> u32
-        ensures { result ≡ turn_of (records self.now) k }
+        ensures { result ≡ turn_of self.now k }
     {
-        match place(k) {
-            None => 0,
-            Some(p) => self.clients[p].turn,
-        }
+        self.client(k).map_or(0, |c| c.turn)
     }
 
-    // Whether a flush of that cell and turn is in client k's journal.
-    pub(super) fn flushing(&self, k: u32, i: u32, turn: u32) -> bool
-        ensures { result ≡ flushing (records self.now) k i turn }
+    // Whether that flush is in its client's journal.
+    pub(super) fn flushing(&self, flush: Flush) -> bool
+        ensures { result ≡ flushing self.now flush.client flush.cell flush.turn }
     {
-        match place(k) {
-            None => false,
-            Some(p) => self.clients[p].is_flushing(i, turn),
-        }
+        self.client(flush.client)
+            .is_some_and(|c| c.is_flushing(flush.cell, flush.turn))
     }
 
     // Whether cell i is in client k's journal.
     pub fn in_journal(&self, k: u32, i: u32) -> bool
-        ensures { result ≡ is_in_journal (records self.now) k i }
+        ensures { result ≡ is_in_journal self.now k i }
     {
-        match self.journal(k) {
-            None => false,
-            Some(j) => j == i,
-        }
+        self.journal(k) == Some(i)
     }
 
     // Whether cell i of client k is dirty or in the journal.
     pub(super) fn unsent(&self, k: u32, i: u32) -> bool
-        ensures { result ≡ unsent_at (records self.now) k i }
+        ensures { result ≡ unsent_at self.now k i }
     {
-        match self.cell(k, i) {
-            None => self.in_journal(k, i),
-            Some(r) => r.dirty || self.in_journal(k, i),
-        }
+        self.cell(k, i).is_some_and(|r| r.dirty) || self.in_journal(k, i)
     }
 
     // Whether client k holds the session.
     pub(super) fn holds(&self, k: u32) -> bool
-        ensures { result ≡ names (records self.now).holder k }
+        ensures { result ≡ names self.now.holder k }
     {
-        match self.holder {
-            None => false,
-            Some(h) => h == k,
-        }
+        self.holder == Some(k)
     }
 }

@@ -1,5 +1,6 @@
 // The making of a site.
 ghost use Rattle.std.specs.Prelude.{◌≡◌};
+ghost use Rattle.std.specs.Result.{result_err};
 ghost use Rattle.store.specs.Stores.{stored};
 ghost use Rattle.site.specs.Means.{rests, site_rests, site_state};
 ghost use Rattle.rules.specs.Making.{looked, look_from, surveyed, making};
@@ -8,21 +9,18 @@ use super::*;
 use records::fault::Unfit;
 
 // Questions 5 and 6, mark by mark: the first no.
-fn look<M: Store<Cell = u32>>(marks: &mut M, m: usize, session: u32) -> Option<Unfit>
-    ensures does { looked result (stored (M.Store.cells marks.new) (M.Store.life marks.new)) ≡ look_from m 0 session (stored (M.Store.cells marks.old) (M.Store.life marks.old)) }
+fn look<M: Store<Cell = u32>>(marks: &mut M, m: usize, session: u32) -> Result<(), Unfit>
+    ensures does { looked (result_err result) (stored (M.Store.cells marks.new) (M.Store.life marks.new)) ≡ look_from m 0 session (stored (M.Store.cells marks.old) (M.Store.life marks.old)) }
     ensures kept { M.Store.rest marks.new ≡ M.Store.rest marks.old }
 {
     for i in 0..m {
         match marks.read(i) {
-            Err(_) => return Some(Unfit::MarkUnread),
-            Ok(x) => {
-                if x > session {
-                    return Some(Unfit::MarkAbove);
-                }
-            }
+            Ok(mark) if mark <= session => {}
+            Ok(_) => return Err(Unfit::MarkAbove),
+            Err(_) => return Err(Unfit::MarkUnread),
         }
     }
-    None
+    Ok(())
 }
 
 // Questions 1 to 6: the first no.
@@ -31,23 +29,23 @@ fn survey<D: Store, M: Store<Cell = u32>, B: Bank<Cell = D::Cell>>(
     marks: &mut M,
     bank: &B,
     session: u32,
-) -> Option<Unfit>
-    ensures does { looked result (stored (M.Store.cells marks.new) (M.Store.life marks.new)) ≡ surveyed (stored (D.Store.cells disk.now) (D.Store.life disk.now)) (stored (M.Store.cells marks.old) (M.Store.life marks.old)) (B.Bank.stores bank.now) session }
+) -> Result<(), Unfit>
+    ensures does { looked (result_err result) (stored (M.Store.cells marks.new) (M.Store.life marks.new)) ≡ surveyed (stored (D.Store.cells disk.now) (D.Store.life disk.now)) (stored (M.Store.cells marks.old) (M.Store.life marks.old)) (B.Bank.stores bank.now) session }
     ensures kept { M.Store.rest marks.new ≡ M.Store.rest marks.old }
 {
     let m = disk.count();
     if m == 0 || m > 1024 {
-        return Some(Unfit::DiskSize);
+        return Err(Unfit::DiskSize);
     }
     if M::count(marks) != m {
-        return Some(Unfit::MarksSize);
+        return Err(Unfit::MarksSize);
     }
     let clients = bank.clients();
     if clients == 0 || clients > 8 {
-        return Some(Unfit::ClientCount);
+        return Err(Unfit::ClientCount);
     }
     if !bank.all_long(m + 1) {
-        return Some(Unfit::LocalSize);
+        return Err(Unfit::LocalSize);
     }
     look(marks, m, session)
 }
@@ -58,23 +56,15 @@ impl<D: Store, M: Store<Cell = u32>, B: Bank<Cell = D::Cell>> Site<D, M, B> {
         ensures does { site_state D.Store M.Store B.Bank result ≡ making (stored (D.Store.cells disk) (D.Store.life disk)) (stored (M.Store.cells marks) (M.Store.life marks)) (B.Bank.stores bank) session }
         ensures kept { site_rests D.Store M.Store B.Bank result ≡ rests (D.Store.rest disk) (M.Store.rest marks) (B.Bank.rest bank) }
     {
-        match survey(&disk, &mut marks, &bank, session) {
-            None => {
-                let size = disk.count() as u32;
-                let count = bank.clients();
-                Site {
-                    disk,
-                    marks,
-                    bank,
-                    table: Table::new(None, size, count, session),
-                }
-            }
-            Some(u) => Site {
-                disk,
-                marks,
-                bank,
-                table: Table::new(Some(u), 0, 0, session),
-            },
+        let table = match survey(&disk, &mut marks, &bank, session) {
+            Ok(()) => Table::new(None, disk.count() as u32, bank.clients(), session),
+            Err(unfit) => Table::new(Some(unfit), 0, 0, session),
+        };
+        Site {
+            disk,
+            marks,
+            bank,
+            table,
         }
     }
 

@@ -25,10 +25,9 @@ impl<D: Store, M: Store<Cell = u32>, B: Bank<Cell = D::Cell>> Site<D, M, B> {
         ensures does { outcome (site_state D.Store M.Store B.Bank self.new) result ≡ disk_read (site_state D.Store M.Store B.Bank self.old) i }
         ensures kept { site_rests D.Store M.Store B.Bank self.new ≡ site_rests D.Store M.Store B.Bank self.old }
     {
-        match self.disk.read(i as usize) {
-            Ok(v) => Ok(v),
-            Err(e) => Err(refused(StoreName::Disk, i, Operation::Read, e)),
-        }
+        self.disk
+            .read(i as usize)
+            .map_err(|e| refused(StoreName::Disk, i, Operation::Read, e))
     }
 
     // Puts v at cell i of the disk.
@@ -36,10 +35,9 @@ impl<D: Store, M: Store<Cell = u32>, B: Bank<Cell = D::Cell>> Site<D, M, B> {
         ensures does { outcome (site_state D.Store M.Store B.Bank self.new) result ≡ disk_write (site_state D.Store M.Store B.Bank self.old) i v }
         ensures kept { site_rests D.Store M.Store B.Bank self.new ≡ site_rests D.Store M.Store B.Bank self.old }
     {
-        match self.disk.write(i as usize, v) {
-            Ok(()) => Ok(()),
-            Err(e) => Err(refused(StoreName::Disk, i, Operation::Write, e)),
-        }
+        self.disk
+            .write(i as usize, v)
+            .map_err(|e| refused(StoreName::Disk, i, Operation::Write, e))
     }
 
     // The mark of disk cell i.
@@ -47,10 +45,9 @@ impl<D: Store, M: Store<Cell = u32>, B: Bank<Cell = D::Cell>> Site<D, M, B> {
         ensures does { outcome (site_state D.Store M.Store B.Bank self.new) result ≡ mark_read (site_state D.Store M.Store B.Bank self.old) i }
         ensures kept { site_rests D.Store M.Store B.Bank self.new ≡ site_rests D.Store M.Store B.Bank self.old }
     {
-        match self.marks.read(i as usize) {
-            Ok(v) => Ok(v),
-            Err(e) => Err(refused(StoreName::Marks, i, Operation::Read, e)),
-        }
+        self.marks
+            .read(i as usize)
+            .map_err(|e| refused(StoreName::Marks, i, Operation::Read, e))
     }
 
     // The mark of disk cell i becomes n.
@@ -58,10 +55,9 @@ impl<D: Store, M: Store<Cell = u32>, B: Bank<Cell = D::Cell>> Site<D, M, B> {
         ensures does { outcome (site_state D.Store M.Store B.Bank self.new) result ≡ mark_write (site_state D.Store M.Store B.Bank self.old) i n }
         ensures kept { site_rests D.Store M.Store B.Bank self.new ≡ site_rests D.Store M.Store B.Bank self.old }
     {
-        match self.marks.write(i as usize, n) {
-            Ok(()) => Ok(()),
-            Err(e) => Err(refused(StoreName::Marks, i, Operation::Write, e)),
-        }
+        self.marks
+            .write(i as usize, n)
+            .map_err(|e| refused(StoreName::Marks, i, Operation::Write, e))
     }
 
     // Cell i of client k's local store.
@@ -69,11 +65,10 @@ impl<D: Store, M: Store<Cell = u32>, B: Bank<Cell = D::Cell>> Site<D, M, B> {
         ensures does { outcome (site_state D.Store M.Store B.Bank self.new) result ≡ local_read (site_state D.Store M.Store B.Bank self.old) k i }
         ensures kept { site_rests D.Store M.Store B.Bank self.new ≡ site_rests D.Store M.Store B.Bank self.old }
     {
-        match self.bank.read(k, i as usize) {
-            None => Err(SiteFault::NoClient),
-            Some(Ok(v)) => Ok(v),
-            Some(Err(e)) => Err(refused(StoreName::Local, i, Operation::Read, e)),
-        }
+        self.bank
+            .read(k, i as usize)
+            .ok_or(SiteFault::NoClient)?
+            .map_err(|e| refused(StoreName::Local, i, Operation::Read, e))
     }
 
     // Puts v at cell i of client k's local store.
@@ -81,12 +76,9 @@ impl<D: Store, M: Store<Cell = u32>, B: Bank<Cell = D::Cell>> Site<D, M, B> {
         ensures does { outcome (site_state D.Store M.Store B.Bank self.new) result ≡ local_write (site_state D.Store M.Store B.Bank self.old) k i v }
         ensures kept { site_rests D.Store M.Store B.Bank self.new ≡ site_rests D.Store M.Store B.Bank self.old }
     {
-        match self.bank.write(k, i as usize, v) {
-            None => Err(SiteFault::NoClient),
-            Some(r) => match r {
-                Ok(()) => Ok(()),
-                Err(e) => Err(refused(StoreName::Local, i, Operation::Write, e)),
-            },
-        }
+        self.bank
+            .write(k, i as usize, v)
+            .ok_or(SiteFault::NoClient)?
+            .map_err(|e| refused(StoreName::Local, i, Operation::Write, e))
     }
 }

@@ -11,7 +11,7 @@ use crate::slip::{Returned, Slip};
 use records::events::{Event, Reaction};
 use records::fault::SiteFault;
 use records::records::{CellRecord, Flush};
-use rules::answer::Swept;
+use rules::answer::{Source, Stopped};
 use store::Cell;
 
 impl<D: Store, M: Store<Cell = u32>, B: Bank<Cell = D::Cell>> Site<D, M, B> {
@@ -24,8 +24,8 @@ impl<D: Store, M: Store<Cell = u32>, B: Bank<Cell = D::Cell>> Site<D, M, B> {
         Ok(session)
     }
 
-    // The cell read, and its source: 1 the local copy, 2 the copy once checked, 3 the disk.
-    pub(crate) fn do_read(&mut self, k: u32, i: u32) -> Result<(D::Cell, u8), SiteFault>
+    // The cell read, and its source.
+    pub(crate) fn do_read(&mut self, k: u32, i: u32) -> Result<(D::Cell, Source), SiteFault>
         ensures does { outcome (site_state D.Store M.Store B.Bank self.new) result ≡ read_call (site_state D.Store M.Store B.Bank self.old) k i }
         ensures kept { site_rests D.Store M.Store B.Bank self.new ≡ site_rests D.Store M.Store B.Bank self.old }
     {
@@ -42,7 +42,7 @@ impl<D: Store, M: Store<Cell = u32>, B: Bank<Cell = D::Cell>> Site<D, M, B> {
         i: u32,
         mut cell: CellRecord,
         in_journal: bool,
-    ) -> Result<(D::Cell, u8), SiteFault>
+    ) -> Result<(D::Cell, Source), SiteFault>
         ensures does { outcome (site_state D.Store M.Store B.Bank self.new) result ≡ read_admitted (site_state D.Store M.Store B.Bank self.old) k i cell in_journal }
         ensures kept { site_rests D.Store M.Store B.Bank self.new ≡ site_rests D.Store M.Store B.Bank self.old }
     {
@@ -64,7 +64,7 @@ impl<D: Store, M: Store<Cell = u32>, B: Bank<Cell = D::Cell>> Site<D, M, B> {
         mut cell: CellRecord,
         in_journal: bool,
         mark: u32,
-    ) -> Result<(D::Cell, u8), SiteFault>
+    ) -> Result<(D::Cell, Source), SiteFault>
         ensures does { outcome (site_state D.Store M.Store B.Bank self.new) result ≡ read_by_mark (site_state D.Store M.Store B.Bank self.old) k i cell in_journal mark }
         ensures kept { site_rests D.Store M.Store B.Bank self.new ≡ site_rests D.Store M.Store B.Bank self.old }
     {
@@ -78,36 +78,44 @@ impl<D: Store, M: Store<Cell = u32>, B: Bank<Cell = D::Cell>> Site<D, M, B> {
         }
     }
 
-    fn read_local(&mut self, k: u32, i: u32) -> Result<(D::Cell, u8), SiteFault>
+    #[tactic(auto, unfolding(rules::specs::Calls::read_local))]
+    fn read_local(&mut self, k: u32, i: u32) -> Result<(D::Cell, Source), SiteFault>
         ensures does { outcome (site_state D.Store M.Store B.Bank self.new) result ≡ read_local (site_state D.Store M.Store B.Bank self.old) k i }
         ensures kept { site_rests D.Store M.Store B.Bank self.new ≡ site_rests D.Store M.Store B.Bank self.old }
     {
         let v = self.local_read(k, i)?;
-        Ok((v, 1))
+        Ok((v, Source::Cached))
     }
 
+    #[tactic(auto, unfolding(rules::specs::Calls::read_confirmed))]
     fn read_confirmed(
         &mut self,
         k: u32,
         i: u32,
         cell: CellRecord,
-    ) -> Result<(D::Cell, u8), SiteFault>
+    ) -> Result<(D::Cell, Source), SiteFault>
         ensures does { outcome (site_state D.Store M.Store B.Bank self.new) result ≡ read_confirmed (site_state D.Store M.Store B.Bank self.old) k i cell }
         ensures kept { site_rests D.Store M.Store B.Bank self.new ≡ site_rests D.Store M.Store B.Bank self.old }
     {
         let v = self.local_read(k, i)?;
         self.table.put(k, i, cell);
-        Ok((v, 2))
+        Ok((v, Source::Checked))
     }
 
-    fn read_fetched(&mut self, k: u32, i: u32, cell: CellRecord) -> Result<(D::Cell, u8), SiteFault>
+    #[tactic(auto, unfolding(rules::specs::Calls::read_fetched))]
+    fn read_fetched(
+        &mut self,
+        k: u32,
+        i: u32,
+        cell: CellRecord,
+    ) -> Result<(D::Cell, Source), SiteFault>
         ensures does { outcome (site_state D.Store M.Store B.Bank self.new) result ≡ read_fetched (site_state D.Store M.Store B.Bank self.old) k i cell }
         ensures kept { site_rests D.Store M.Store B.Bank self.new ≡ site_rests D.Store M.Store B.Bank self.old }
     {
         let v = self.disk_read(i)?;
         self.local_write(k, i, v)?;
         self.table.put(k, i, cell);
-        Ok((v, 3))
+        Ok((v, Source::Fetched))
     }
 
     pub(crate) fn do_write(&mut self, k: u32, i: u32, v: D::Cell) -> Result<(), SiteFault>
@@ -142,8 +150,8 @@ impl<D: Store, M: Store<Cell = u32>, B: Bank<Cell = D::Cell>> Site<D, M, B> {
         ensures does { outcome (site_state D.Store M.Store B.Bank self.new) result ≡ commit_flush D.Cell.Cell.empty (site_state D.Store M.Store B.Bank self.old) flush }
         ensures kept { site_rests D.Store M.Store B.Bank self.new ≡ site_rests D.Store M.Store B.Bank self.old }
     {
-        let Flush { client, cell, turn } = flush;
-        self.table.committing(client, cell, turn)?;
+        self.table.committing(flush)?;
+        let Flush { client, cell, .. } = flush;
         let journal = self.table.size();
         let session = self.table.session();
         let v = self.local_read(client, journal)?;
@@ -171,9 +179,9 @@ impl<D: Store, M: Store<Cell = u32>, B: Bank<Cell = D::Cell>> Site<D, M, B> {
         ensures does { outcome (site_state D.Store M.Store B.Bank self.new) result ≡ give_up_call (site_state D.Store M.Store B.Bank self.old) slip.flush.client slip.flush.cell slip.flush.turn }
         ensures kept { site_rests D.Store M.Store B.Bank self.new ≡ site_rests D.Store M.Store B.Bank self.old }
     {
-        let Flush { client, cell, turn } = slip.spend();
-        self.table.giving_up(client, cell, turn)?;
-        self.table.give_up(client, cell);
+        let flush = slip.spend();
+        self.table.giving_up(flush)?;
+        self.table.give_up(flush.client, flush.cell);
         Ok(())
     }
 
@@ -186,21 +194,18 @@ impl<D: Store, M: Store<Cell = u32>, B: Bank<Cell = D::Cell>> Site<D, M, B> {
         Ok(())
     }
 
-    pub(crate) fn do_invalidate(&mut self, k: u32) -> Swept
+    pub(crate) fn do_invalidate(&mut self, k: u32) -> Result<u32, Stopped>
         ensures does { sweeping (site_state D.Store M.Store B.Bank self.new) result ≡ invalidate_call (site_state D.Store M.Store B.Bank self.old) k }
         ensures kept { site_rests D.Store M.Store B.Bank self.new ≡ site_rests D.Store M.Store B.Bank self.old }
     {
-        match self.table.holding(k) {
-            Ok(()) => {
-                let m = self.table.size();
-                self.sweep_all(k, m)
-            }
-            Err(fault) => Swept {
-                fault: Some(fault),
-                place: 0,
-                value: 0,
-            },
-        }
+        let refused = |fault| Stopped {
+            fault,
+            place: 0,
+            value: 0,
+        };
+        self.table.holding(k).map_err(refused)?;
+        let m = self.table.size();
+        self.sweep_all(k, m)
     }
 
     pub(crate) fn do_restart_client(&mut self, k: u32, n: u32) -> Result<(), SiteFault>

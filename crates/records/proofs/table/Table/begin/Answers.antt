@@ -1,18 +1,10 @@
-use Rattle.std.proofs.Common.{false, set, Some, ap, ◌∙◌}
-use Rattle.records.specs.Cells.{dirtied}
-use Rattle.records.specs.Means.{records}
-use Rattle.records.specs.Records.{with_cells, with_journal, with_cell}
-use Rattle.records.specs.Steps.{with_turn}
-use Rattle.records.specs.declared.records.ClientRecord.{ClientRecord}
-use Rattle.records.proofs.InPlace.{twice}
+use Rattle.records.specs.Records.{begun_client}
+use Rattle.records.proofs.Tables.{change_in, change_out}
 use Rattle.records.proofs.table.Table.begin.Goals as goal
 
-pub returns : goal.returns
-returns c =
-    let t = records c.args.self.now in
-    let f : ClientRecord → ClientRecord = λ x. with_cells x (set x.cells c.args.i (dirtied false c.args.r)) in
-    twice (λ x. with_journal (f x) (Some c.args.i)) (λ x. with_turn x c.args.n) t _ _ c.args.k
-    (twice f (λ x. with_journal x (Some c.args.i)) t _ _ c.args.k
-    (c.put.ensures ∙ ap (with_cell t c.args.k c.args.i) c.react.ensures.left)
-    c.set_journal.ensures)
-    c.set_turn.ensures
+pub returns-in-Some : goal.returns-in-Some
+returns-in-Some c =
+    change_in c.self.inside c.args.self.now c.args.k c.in-Some.p c.self.view_is c.in-Some.ensures (λ x. begun_client x c.args.i c.args.r c.args.n) _ c.begin.ensures
+
+pub returns-in_default : goal.returns-in_default
+returns-in_default c = change_out c.args.self.now c.args.k c.in_default.ensures (λ x. begun_client x c.args.i c.args.r c.args.n)

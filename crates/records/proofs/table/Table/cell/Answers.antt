@@ -1,12 +1,11 @@
-use Rattle.std.proofs.Common.{◌∙◌}
-use Rattle.records.proofs.Tables.{cell_out, cell_past, cell_in}
+use Rattle.std.proofs.Common.{rules, ◌∙◌}
+use Rattle.records.proofs.Tables.{item_copied, cell_found}
 use Rattle.records.proofs.table.Table.cell.Goals as goal
 
-pub returns-in_err-p : goal.returns-in_err-p
-returns-in_err-p c = c.from_residual.ensures ∙ cell_out c.args.self.now c.args.k c.in_err-p.ensures c.args.i
-
-pub returns-then-i-ge1024 : goal.returns-then-i-ge1024
-returns-then-i-ge1024 c = cell_past c.args.self.now c.args.k c.in_ok-p.p c.in_ok-p.ensures c.args.i c.if-i-ge1024.true
+pub returns-in_err-client : goal.returns-in_err-client
+returns-in_err-client c = search (rules, cell_found c.args.self.now c.args.k c.client.result c.client.ensures c.args.i)
 
 pub returns : goal.returns
-returns c = cell_in c.args.self.now c.args.k c.in_ok-p.p c.in_ok-p.ensures c.args.i c.if-i-ge1024.false
+returns c =
+    c.copied.ensures ∙ item_copied c.in_ok-client.field-0.now.cells c.args.i c.get.result c.get.ensures.lookup
+    ∙ search (rules, cell_found c.args.self.now c.args.k c.client.result c.client.ensures c.args.i)

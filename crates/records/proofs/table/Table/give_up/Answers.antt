@@ -1,10 +1,10 @@
-use Rattle.std.proofs.Common.{None}
-use Rattle.records.specs.Means.{records}
-use Rattle.records.specs.Records.{with_cells, with_journal, soiled_at}
-use Rattle.records.proofs.InPlace.{twice}
+use Rattle.records.specs.Records.{given_up_client}
+use Rattle.records.proofs.Tables.{change_in, change_out}
 use Rattle.records.proofs.table.Table.give_up.Goals as goal
 
-pub returns : goal.returns
-returns c =
-    twice (λ x. with_cells x (soiled_at x.cells c.args.i)) (λ x. with_journal x None) (records c.args.self.now) _ _ c.args.k
-    c.soil.ensures c.empty_journal.ensures
+pub returns-in-Some : goal.returns-in-Some
+returns-in-Some c =
+    change_in c.self.inside c.args.self.now c.args.k c.in-Some.p c.self.view_is c.in-Some.ensures (λ x. given_up_client x c.args.i) _ c.give_up.ensures
+
+pub returns-in_default : goal.returns-in_default
+returns-in_default c = change_out c.args.self.now c.args.k c.in_default.ensures (λ x. given_up_client x c.args.i)

@@ -1,9 +1,9 @@
-use Rattle.std.proofs.Common.{◌∙◌}
-use Rattle.records.proofs.Tables.{note_out, note_in}
+use Rattle.std.proofs.Common.{rules}
+use Rattle.records.proofs.Tables.{note_found}
 use Rattle.records.proofs.table.Table.noted.Goals as goal
 
-pub returns-in_err-p : goal.returns-in_err-p
-returns-in_err-p c = c.from_residual.ensures ∙ note_out c.args.self.now c.args.k c.in_err-p.ensures
+pub returns-in_err-client : goal.returns-in_err-client
+returns-in_err-client c = search (rules, note_found c.args.self.now c.args.k c.client.result c.client.ensures)
 
 pub returns : goal.returns
-returns c = note_in c.args.self.now c.args.k c.in_ok-p.p c.in_ok-p.ensures
+returns c = search (rules, note_found c.args.self.now c.args.k c.client.result c.client.ensures)

@@ -1,19 +1,16 @@
-use Rattle.std.proofs.Common.{◌≡◌, ◌+◌, ◌-◌, Ok, Err, sym, ◌∙◌, arith}
+use Rattle.std.proofs.Common.{◌+◌, ◌-◌, Err, sym, ◌∙◌, arith}
 use Rattle.site.specs.Means.{site_state}
-use Rattle.site.proofs.Sweeping.{sweep_none, sweep_once, one_if_le}
+use Rattle.site.proofs.Sweeping.{sweep_none, sweep_once, sweep_next, byte_le}
 use Rattle.site.proofs.site.Site.sweep_all.Goals as goal
 
 pub overflow_add-value : goal.overflow_add-value
-overflow_add-value g c = omega (arith, one_if_le c.in-Ok.forgot, c.one_if-value.ensures)
+overflow_add-value g c = omega (arith, byte_le c.in-Ok.forgot, c.from-value.ensures)
 
 pub loop-i-preserved : goal.loop-i-preserved
 loop-i-preserved g c = (
-  omega (arith, one_if_le c.in-Ok.forgot, c.one_if-value.ensures),
-  (let p : c.args.m - (c.loop-i.i + 1) ≡ c.args.m - c.loop-i.i - 1 = omega arith in
-      let e =
-      sweep_once c.args.k (c.args.m - c.loop-i.i) (site_state g.D.Store g.M.Store g.B.Bank c.loop-i.self) (site_state g.D.Store g.M.Store g.B.Bank c.sweep_cell.new.self) (Ok c.in-Ok.forgot) c.loop-i.i c.loop-i.value (omega arith)
-      c.in-Ok.ensures.does in
-      cc),
+  omega (arith, byte_le c.in-Ok.forgot, c.from-value.ensures),
+  sweep_next c.args.k (c.args.m - c.loop-i.i) (c.args.m - (c.loop-i.i + 1)) _ _ c.in-Ok.forgot _ c.loop-i.i c.loop-i.value (omega arith) (omega arith) c.from-value.ensures c.in-Ok.ensures.does
+      ∙ c.loop-i.invariant.1,
   c.in-Ok.ensures.kept ∙ c.loop-i.invariant.2,
 )
 
