@@ -15,7 +15,7 @@ use store::{Fuse, Image, Row, Sector, Store, Window};
 
 // The number that is printed for an answer: 0 where it was accepted.
 fn number(answer: Result<(), SiteFault>) -> u8 {
-    answer.err().map_or(0, SiteFault::number)
+    answer.err().map_or(0, u8::from)
 }
 
 // A site, and where what is done to it is printed. (What cannot be printed is lost; the day goes on.)
@@ -34,10 +34,7 @@ impl<P: Print, S: Calls<Cell = Sector>> Day<'_, P, S> {
     fn say(&self, client: u32, what: &str, cell: u32, answer: Result<(), SiteFault>) {
         let _ = match answer {
             Ok(()) => println!(self.out; "  client {client} {what} {cell}: done"),
-            Err(fault) => {
-                let number = fault.number();
-                println!(self.out; "  client {client} {what} {cell}: refused by {number}")
-            }
+            Err(fault) => println!(self.out; "  client {client} {what} {cell}: {fault}"),
         };
     }
 
@@ -62,6 +59,7 @@ impl<P: Print, S: Calls<Cell = Sector>> Day<'_, P, S> {
         match self.site.read(client, cell, &mut sector) {
             Ok(source) => {
                 let byte = sector[0];
+                let source = u8::from(source);
                 let _ = println!(self.out;
                     "  client {client} reads sector {cell}: bytes of {byte}, from source {source}"
                 );
@@ -186,8 +184,8 @@ fn twins<S: Calls<Cell = u32>, T: Calls<Cell = u32>>(out: &impl Print, one: &mut
         step(7, 1, 0),
     ];
     let given = [0, 42, 0, 0, 0, 0];
-    let mut answers = [NO_ANSWER; 6];
-    let mut answers2 = [NO_ANSWER; 6];
+    let mut answers = [Answer::default(); 6];
+    let mut answers2 = [Answer::default(); 6];
     let mut got = [0; 6];
     let mut got2 = [0; 6];
     let (first, second) = run_both(
@@ -220,14 +218,6 @@ fn step(call: u32, client: u32, cell: u32) -> Step {
         second: 0,
     }
 }
-
-const NO_ANSWER: Answer = Answer {
-    number: 0,
-    place: 0,
-    value: 0,
-    source: 0,
-    fault: None,
-};
 
 // A site over rows, and one over windows and fuses, that start alike: 3 cells, one client.
 fn night(out: &impl Print) {

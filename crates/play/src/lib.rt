@@ -19,15 +19,6 @@ use std::alloc::{AllocError, Global};
 use std::marker::PhantomData;
 use store::{Fuse, Row, Store};
 
-// What the rows of answers hold before a run.
-const NO_ANSWER: Answer = Answer {
-    number: 0,
-    place: 0,
-    value: 0,
-    source: 0,
-    fault: None,
-};
-
 // The cells that writes take: each step's first number.
 fn given(heap: Global, steps: &[Step]) -> Result<Vec<u32>, AllocError>
     ensures { IfOk result (λ v. v.items ≡ given_by steps.now) }
@@ -103,7 +94,7 @@ fn answer(heap: Global, steps: &[Step]) -> Result<Left, AllocError>
     ensures { IfOk result (λ l. left_by l.answers.items l.got.items ≡ answers_to steps.now) }
 {
     let given = given(heap, steps)?;
-    let mut answers = vec![in heap; NO_ANSWER; steps.len()]?;
+    let mut answers = vec![in heap; Answer::default(); steps.len()]?;
     let mut got = vec![in heap; 0; steps.len()]?;
     run_steps(steps, &given, &mut answers, &mut got);
     Ok(Left { answers, got })
