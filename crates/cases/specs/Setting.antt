@@ -1,5 +1,5 @@
 -- The site of the worked cases, and how a case is played on it.
-use Rattle.std.specs.Prelude.{ℕ, suc, Bool, true, false, cond, List, [], ◌∷◌, map, Some, None, Option, ◌==◌, slice_index, slice_index_or}
+use Rattle.std.specs.Prelude.{ℕ, suc, Bool, true, false, List, [], ◌∷◌, map, Some, None, Option, slice_index, slice_index_or}
 use Rattle.std.specs.Option.{unwrap_or, option_map}
 use Rattle.store.specs.declared.life.Life.{Life}
 use Rattle.store.specs.declared.life.Life.TheVariants.{Endless, Left}

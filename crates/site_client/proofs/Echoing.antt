@@ -1,5 +1,5 @@
 -- A read that comes after a write on a new site gives what was written, by the read's promise.
-use Rattle.std.proofs.Common.{◌≡◌, ℕ, cond, eqb, List, [], ◌∷◌, Some, None, Ok, Result, sym, refl, ap, ◌∙◌, subst}
+use Rattle.std.proofs.Common.{◌≡◌, ℕ, cond, eqb, List, [], ◌∷◌, None, Ok, Result, sym, refl, ap, ◌∙◌, subst}
 use Rattle.std.proofs.lemmas.Option.{same_Some}
 use Rattle.records.specs.declared.fault.SiteFault.{SiteFault}
 use Rattle.rules.specs.declared.answer.Source.{Source}
