@@ -1,7 +1,7 @@
 // A sheet run on a site of its own, from the sheet's bytes to the printed bytes.
 #![tactic(auto)]
 
-ghost use Rattle.std.specs.Prelude.{◌≡◌, replicate, IfOk};
+ghost use Rattle.std.specs.Prelude.{◌≡◌, IfOk};
 ghost use Rattle.script.specs.Printed.{printed, site};
 ghost use Rattle.script.specs.Scripts.{given_by};
 ghost use Rattle.rules.specs.Replies.{called};
