@@ -28,9 +28,6 @@ built_true blank s (CommitStep k) = refl
 built_true blank s (GiveUpStep k) = refl
 built_true blank s NoStep = refl
 
-differ : {P : Type 0} (m n : ℕ) → (m ≡ n → ⊥) → ◌≡◌ {A = Option ℕ} (Some m) (Some n) → P
-differ m n d e = let q : m ≡ n = cc in absurd (d q)
-
 -- client 1's copy of cell 3 counts as new, and the disk has another cell
 disk_first_breaks : Breaks disk_first marks_down
 unfolding built called cell_of journal_of note_of turn_of flushing new_client new_clients first_from look_from surveyed read_local read_confirmed read_fetched sweep_cell sweep_from commit_taken
@@ -47,12 +44,16 @@ true_loss = refl
 -- client 1's last read got 0, and the last write is 77
 last_session_breaks : Breaks last_session stale_copy
 unfolding built called cell_of journal_of note_of turn_of flushing new_client new_clients first_from look_from surveyed read_local read_confirmed read_fetched sweep_cell sweep_from commit_taken
-last_session_breaks h = differ 0 77 (λ e. omega arith) (h.each_read (_ ∷ _ ∷ _ ∷ _ ∷ _ ∷ _ ∷ _ ∷ _ ∷ _ ∷ _ ∷ _ ∷ []) _ [] refl refl)
+last_session_breaks h =
+    let e : ◌≡◌ {A = Option ℕ} (Some 0) (Some 77) = h.each_read (_ ∷ _ ∷ _ ∷ _ ∷ _ ∷ _ ∷ _ ∷ _ ∷ _ ∷ _ ∷ _ ∷ []) _ [] refl refl in
+    cc
 
 -- client 1's read got 0, and it had written 5
 dirty_dropped_breaks : Breaks dirty_dropped swept_write
 unfolding built called cell_of journal_of note_of turn_of flushing new_client new_clients first_from look_from surveyed read_local read_confirmed read_fetched sweep_cell sweep_from commit_taken
-dirty_dropped_breaks h = differ 0 5 (λ e. omega arith) (h.each_read (_ ∷ _ ∷ _ ∷ []) _ [] refl refl)
+dirty_dropped_breaks h =
+    let e : ◌≡◌ {A = Option ℕ} (Some 0) (Some 5) = h.each_read (_ ∷ _ ∷ _ ∷ []) _ [] refl refl in
+    cc
 
 fit : (made start).table.unfit ≡ None
 unfolding look_from surveyed

@@ -7,7 +7,7 @@ use Rattle.records.specs.Records.{Records, with_clients, with_holder, with_cells
 use Rattle.records.specs.Questions.{holding, committing, closing, taken_place, taking_to_commit}
 use Rattle.rules.specs.Site.{State, Outcome, outcome, ◌then◌, with_table, disk_write, mark_write, local_read, local_write}
 use Rattle.rules.specs.Making.{made}
-use Rattle.rules.specs.Calls.{commit_call, close_call, Sweeping, swept, sweep_from, invalidate_call, with_note_of, returned}
+use Rattle.rules.specs.Calls.{commit_call, close_call, Sweeping, stopped, sweep_from, invalidate_call, with_note_of, returned}
 use Rattle.rules.specs.Replies.{Call, Open, Read, Write, Begin, Commit, GiveUp, Close, Invalidate, RestartClient, RestartServer, BeginStep, CommitStep, GiveUpStep, NoStep, Out, replied, plain_reply, swept_out, called}
 use Rattle.rules.specs.History.{Act, single, after, log}
 use Rattle.rules.specs.Claim.{Upheld, Upholds}
@@ -82,7 +82,7 @@ dropped t k = with_clients t (changed (λ c. with_cells c (map dropped_cell c.ce
 
 abbrev dropping_sweep : {V : Type 0} → State V → ℕ → Result (Unit {0}) SiteFault → Sweeping V
 dropping_sweep s k (Ok _) = sweep_from k s.table.size (with_table s (dropped s.table k)) 0 0
-dropping_sweep s k (Err e) = swept s (Some e) 0 0
+dropping_sweep s k (Err e) = stopped s e 0 0
 
 abbrev dropping_invalidate : {V : Type 0} → State V → ℕ → Sweeping V
 dropping_invalidate s k = dropping_sweep s k (holding s.table k)

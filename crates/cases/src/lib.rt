@@ -7,6 +7,7 @@ ghost use Rattle.cases.specs.Readings.{readings, ReadSo};
 ghost use Rattle.cases.specs.Turned.{FaultsShown};
 
 // Each case comes out as it is said to; answers how many there are.
+#[tactic(auto, using(crate::proofs::Computed::worked))]
 pub fn cases_stand() -> usize
     ensures count { result ≡ length cases }
     ensures stand { Worked }
@@ -15,6 +16,7 @@ pub fn cases_stand() -> usize
 }
 
 // So does each case that shows how a rule is read; answers how many there are.
+#[tactic(auto, using(crate::proofs::Computed::read_so))]
 pub fn readings_stand() -> usize
     ensures count { result ≡ length readings }
     ensures stand { ReadSo }
@@ -23,6 +25,7 @@ pub fn readings_stand() -> usize
 }
 
 // What is proved of the rules fails of each of three rules turned, after a list of calls that is given.
+#[tactic(auto, using(crate::proofs::Broken::shown))]
 pub fn faults_shown()
     ensures { FaultsShown }
 {}

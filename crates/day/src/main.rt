@@ -5,6 +5,7 @@
 
 use bank::{Bank, End};
 use records::fault::SiteFault;
+use records::records::Flush;
 use rules::answer::Answer;
 use rules::step::Step;
 use site::{Calls, Returned, Site, Slip, run_both};
@@ -12,181 +13,168 @@ use std::io;
 use std::marker::PhantomData;
 use store::{Fuse, Image, Row, Sector, Store, Window};
 
-// Says what was done and how it ended. (What cannot be printed is lost; the day goes on.)
-fn say(rt: &impl Print, client: u32, what: &str, cell: u32, number: u8) {
-    let _ = if number == 0 {
-        println!(rt; "  client {client} {what} {cell}: done")
-    } else {
-        println!(rt; "  client {client} {what} {cell}: refused by {number}")
-    };
+// The number that is printed for an answer: 0 where it was accepted.
+fn number(answer: Result<(), SiteFault>) -> u8 {
+    answer.err().map_or(0, u8::from)
 }
 
-fn title(rt: &impl Print, what: &str) {
-    let _ = println!(rt; "{what}");
+// A site, and where what is done to it is printed. (What cannot be printed is lost; the day goes on.)
+#[derive(Drop)]
+struct Day<'a, P, S> {
+    out: &'a P,
+    site: &'a mut S,
 }
 
-fn ended<T: Copy>(answer: Result<T, SiteFault>) -> u8 {
-    match answer {
-        Ok(_) => 0,
-        Err(fault) => fault.number(),
+impl<P: Print, S: Calls<Cell = Sector>> Day<'_, P, S> {
+    fn title(&self, what: &str) {
+        let _ = println!(self.out; "{what}");
     }
-}
 
-fn open(rt: &impl Print, site: &mut impl Calls<Cell = Sector>, client: u32) {
-    match site.open(client) {
-        Ok(session) => say(rt, client, "opens session", session, 0),
-        Err(fault) => say(rt, client, "opens a session", 0, fault.number()),
+    // Says what was done and how it ended.
+    fn say(&self, client: u32, what: &str, cell: u32, answer: Result<(), SiteFault>) {
+        let _ = match answer {
+            Ok(()) => println!(self.out; "  client {client} {what} {cell}: done"),
+            Err(fault) => println!(self.out; "  client {client} {what} {cell}: {fault}"),
+        };
     }
-}
 
-fn close(rt: &impl Print, site: &mut impl Calls<Cell = Sector>, client: u32) {
-    match site.close(client) {
-        Err(SiteFault::Unsent(cell)) => say(rt, client, "closes with unsent sector", cell, 17),
-        answer => say(rt, client, "closes, with unsent sectors", 0, ended(answer)),
-    }
-}
-
-fn read(rt: &impl Print, site: &mut impl Calls<Cell = Sector>, client: u32, cell: u32) {
-    let mut sector = [0; 512];
-    match site.read(client, cell, &mut sector) {
-        Ok(source) => {
-            let byte = sector[0];
-            let _ = println!(rt;
-                "  client {client} reads sector {cell}: bytes of {byte}, from source {source}"
-            );
-        }
-        Err(fault) => say(rt, client, "reads sector", cell, fault.number()),
-    }
-}
-
-fn write(rt: &impl Print, site: &mut impl Calls<Cell = Sector>, client: u32, cell: u32, byte: u8) {
-    let answer = site.write(client, cell, [byte; 512]);
-    say(rt, client, "writes to sector", cell, ended(answer));
-}
-
-fn restart_server(rt: &impl Print, site: &mut impl Calls<Cell = Sector>, disk: u32, marks: u32) {
-    let number = ended(site.restart_server(disk, marks));
-    let _ = println!(rt;
-        "  the server restarts, with a life of {disk} for the disk and {marks} for the marks: {number}"
-    );
-}
-
-fn restart_client(rt: &impl Print, site: &mut impl Calls<Cell = Sector>, client: u32, life: u32) {
-    let answer = site.restart_client(client, life);
-    say(rt, client, "restarts with a life of", life, ended(answer));
-}
-
-// Commits a flush; the slip comes back where it is refused.
-fn try_commit(rt: &impl Print, site: &mut impl Calls<Cell = Sector>, slip: Slip) -> Option<Slip> {
-    let flush = slip.flush();
-    match site.commit(slip) {
-        Ok(()) => {
-            say(rt, flush.client, "commits sector", flush.cell, 0);
-            None
-        }
-        Err(Returned { slip, fault }) => {
-            say(
-                rt,
-                flush.client,
-                "commits sector",
-                flush.cell,
-                fault.number(),
-            );
-            Some(slip)
+    fn open(&mut self, client: u32) {
+        match self.site.open(client) {
+            Ok(session) => self.say(client, "opens session", session, Ok(())),
+            Err(fault) => self.say(client, "opens a session", 0, Err(fault)),
         }
     }
-}
 
-// Commits a flush; a slip that comes back is tried again once the server is back, and then given up.
-fn commit(rt: &impl Print, site: &mut impl Calls<Cell = Sector>, slip: Slip) {
-    let Some(back) = try_commit(rt, site, slip) else {
-        return;
-    };
-    restart_server(rt, site, 9, 9);
-    let Some(again) = try_commit(rt, site, back) else {
-        return;
-    };
-    let flush = again.flush();
-    let answer = site.give_up(again);
-    say(
-        rt,
-        flush.client,
-        "gives up the flush of sector",
-        flush.cell,
-        ended(answer),
-    );
-}
+    fn close(&mut self, client: u32) {
+        let answer = self.site.close(client);
+        if let Err(SiteFault::Unsent(cell)) = answer {
+            self.say(client, "closes with unsent sector", cell, answer);
+        } else {
+            self.say(client, "closes, with unsent sectors", 0, answer);
+        }
+    }
 
-// Begins a flush, lets the server lose power with these lives left, and commits.
-fn flush(
-    rt: &impl Print,
-    site: &mut impl Calls<Cell = Sector>,
-    client: u32,
-    cell: u32,
-    lives: Option<(u32, u32)>,
-) {
-    match site.begin(client, cell) {
-        Err(fault) => say(rt, client, "begins to flush sector", cell, fault.number()),
-        Ok(slip) => {
-            say(rt, client, "begins to flush sector", cell, 0);
-            if let Some((disk, marks)) = lives {
-                restart_server(rt, site, disk, marks);
+    fn read(&mut self, client: u32, cell: u32) {
+        let mut sector = [0; 512];
+        match self.site.read(client, cell, &mut sector) {
+            Ok(source) => {
+                let byte = sector[0];
+                let source = u8::from(source);
+                let _ = println!(self.out;
+                    "  client {client} reads sector {cell}: bytes of {byte}, from source {source}"
+                );
             }
-            commit(rt, site, slip);
+            Err(fault) => self.say(client, "reads sector", cell, Err(fault)),
         }
+    }
+
+    fn write(&mut self, client: u32, cell: u32, byte: u8) {
+        let answer = self.site.write(client, cell, [byte; 512]);
+        self.say(client, "writes to sector", cell, answer);
+    }
+
+    fn restart_server(&mut self, disk: u32, marks: u32) {
+        let number = number(self.site.restart_server(disk, marks));
+        let _ = println!(self.out;
+            "  the server restarts, with a life of {disk} for the disk and {marks} for the marks: {number}"
+        );
+    }
+
+    fn restart_client(&mut self, client: u32, life: u32) {
+        let answer = self.site.restart_client(client, life);
+        self.say(client, "restarts with a life of", life, answer);
+    }
+
+    // Commits a flush; the slip comes back where it is refused.
+    fn try_commit(&mut self, slip: Slip) -> Option<Slip> {
+        let Flush { client, cell, .. } = slip.flush();
+        match self.site.commit(slip) {
+            Ok(()) => {
+                self.say(client, "commits sector", cell, Ok(()));
+                None
+            }
+            Err(Returned { slip, fault }) => {
+                self.say(client, "commits sector", cell, Err(fault));
+                Some(slip)
+            }
+        }
+    }
+
+    // Commits a flush; a slip that comes back is tried again once the server is back, and then given up.
+    fn commit(&mut self, slip: Slip) {
+        let Some(back) = self.try_commit(slip) else {
+            return;
+        };
+        self.restart_server(9, 9);
+        let Some(again) = self.try_commit(back) else {
+            return;
+        };
+        let Flush { client, cell, .. } = again.flush();
+        let answer = self.site.give_up(again);
+        self.say(client, "gives up the flush of sector", cell, answer);
+    }
+
+    // Begins a flush, lets the server lose power with these lives left, and commits.
+    fn flush(&mut self, client: u32, cell: u32, lives: Option<(u32, u32)>) {
+        let slip = match self.site.begin(client, cell) {
+            Ok(slip) => slip,
+            Err(fault) => return self.say(client, "begins to flush sector", cell, Err(fault)),
+        };
+        self.say(client, "begins to flush sector", cell, Ok(()));
+        if let Some((disk, marks)) = lives {
+            self.restart_server(disk, marks);
+        }
+        self.commit(slip);
+    }
+
+    fn morning(&mut self) {
+        self.title("Morning: client 1 works, and the disk loses power between a mark and its cell");
+        self.open(1);
+        self.read(1, 2);
+        self.write(1, 1, 5);
+        self.read(1, 1);
+        self.flush(1, 1, Some((0, 9)));
+        self.title(
+            "Client 1 loses power after the disk was written, and before its journal is empty",
+        );
+        self.restart_client(1, 4);
+        self.write(1, 3, 6);
+        self.flush(1, 3, None);
+        self.restart_client(1, 99);
+        self.read(1, 3);
+        self.close(1);
+        self.flush(1, 3, None);
+        self.close(1);
+    }
+
+    fn afternoon(&mut self) {
+        self.title("Afternoon: client 2 takes over");
+        self.open(2);
+        self.open(1);
+        self.read(2, 1);
+        self.read(2, 3);
+        self.write(2, 2, 77);
+        self.flush(2, 2, None);
+        self.close(2);
+        self.title("Evening: client 1 is back, and its copy of sector 2 is stale");
+        self.open(1);
+        self.read(1, 1);
+        self.read(1, 2);
+        self.read(1, 4);
+        self.close(1);
     }
 }
 
-fn morning(rt: &impl Print, site: &mut impl Calls<Cell = Sector>) {
-    title(
-        rt,
-        "Morning: client 1 works, and the disk loses power between a mark and its cell",
-    );
-    open(rt, site, 1);
-    read(rt, site, 1, 2);
-    write(rt, site, 1, 1, 5);
-    read(rt, site, 1, 1);
-    flush(rt, site, 1, 1, Some((0, 9)));
-    title(
-        rt,
-        "Client 1 loses power after the disk was written, and before its journal is empty",
-    );
-    restart_client(rt, site, 1, 4);
-    write(rt, site, 1, 3, 6);
-    flush(rt, site, 1, 3, None);
-    restart_client(rt, site, 1, 99);
-    read(rt, site, 1, 3);
-    close(rt, site, 1);
-    flush(rt, site, 1, 3, None);
-    close(rt, site, 1);
-}
-
-fn afternoon(rt: &impl Print, site: &mut impl Calls<Cell = Sector>) {
-    title(rt, "Afternoon: client 2 takes over");
-    open(rt, site, 2);
-    open(rt, site, 1);
-    read(rt, site, 2, 1);
-    read(rt, site, 2, 3);
-    write(rt, site, 2, 2, 77);
-    flush(rt, site, 2, 2, None);
-    close(rt, site, 2);
-    title(
-        rt,
-        "Evening: client 1 is back, and its copy of sector 2 is stale",
-    );
-    open(rt, site, 1);
-    read(rt, site, 1, 1);
-    read(rt, site, 1, 2);
-    read(rt, site, 1, 4);
-    close(rt, site, 1);
+// The day of a site over sectors.
+fn sectors(out: &impl Print, site: &mut impl Calls<Cell = Sector>) {
+    let mut day = Day { out, site };
+    day.morning();
+    day.afternoon();
 }
 
 // Runs the same steps on two sites, and says of each step what both answered.
-fn twins<S: Calls<Cell = u32>, T: Calls<Cell = u32>>(rt: &impl Print, one: &mut S, other: &mut T) {
-    title(
-        rt,
-        "Night: two sites over different stores take the same steps",
-    );
+fn twins<S: Calls<Cell = u32>, T: Calls<Cell = u32>>(out: &impl Print, one: &mut S, other: &mut T) {
+    let _ = println!(out; "Night: two sites over different stores take the same steps");
     let steps = [
         step(1, 1, 0),
         step(3, 1, 2),
@@ -196,8 +184,8 @@ fn twins<S: Calls<Cell = u32>, T: Calls<Cell = u32>>(rt: &impl Print, one: &mut 
         step(7, 1, 0),
     ];
     let given = [0, 42, 0, 0, 0, 0];
-    let mut answers = [NO_ANSWER; 6];
-    let mut answers2 = [NO_ANSWER; 6];
+    let mut answers = [Answer::default(); 6];
+    let mut answers2 = [Answer::default(); 6];
     let mut got = [0; 6];
     let mut got2 = [0; 6];
     let (first, second) = run_both(
@@ -210,15 +198,13 @@ fn twins<S: Calls<Cell = u32>, T: Calls<Cell = u32>>(rt: &impl Print, one: &mut 
         &mut answers2,
         &mut got2,
     );
-    let _ = println!(rt; "  the runs: {} and {}", ended(first), ended(second));
-    for i in 0..6 {
-        let call = steps[i].call;
-        let number = answers[i].number;
-        let number2 = answers2[i].number;
-        let cell = got[i];
-        let cell2 = got2[i];
-        let _ = println!(rt;
-            "  call {call}: answers {number} and {number2}, cells got {cell} and {cell2}"
+    let _ = println!(out; "  the runs: {} and {}", number(first), number(second));
+    let answered = answers.iter().zip(&answers2);
+    let cells = got.iter().zip(&got2);
+    for ((step, (answer, answer2)), (cell, cell2)) in steps.iter().zip(answered).zip(cells) {
+        let _ = println!(out;
+            "  call {}: answers {} and {}, cells got {cell} and {cell2}",
+            step.call, answer.number, answer2.number,
         );
     }
 }
@@ -233,16 +219,8 @@ fn step(call: u32, client: u32, cell: u32) -> Step {
     }
 }
 
-const NO_ANSWER: Answer = Answer {
-    number: 0,
-    place: 0,
-    value: 0,
-    source: 0,
-    fault: None,
-};
-
 // A site over rows, and one over windows and fuses, that start alike: 3 cells, one client.
-fn night(rt: &impl Print) {
+fn night(out: &impl Print) {
     let mut disk = [7; 3];
     let mut marks = [0; 3];
     let mut local = [0; 4];
@@ -261,7 +239,7 @@ fn night(rt: &impl Print) {
         bank2,
         0,
     );
-    twins(rt, &mut one, &mut other);
+    twins(out, &mut one, &mut other);
 }
 
 fn main(rt: HostRuntime) -> io::Result<()> {
@@ -280,8 +258,7 @@ fn main(rt: HostRuntime) -> io::Result<()> {
         bank,
         0,
     );
-    morning(&rt, &mut site);
-    afternoon(&rt, &mut site);
+    sectors(&rt, &mut site);
     night(&rt);
     Ok(())
 }

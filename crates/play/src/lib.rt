@@ -1,7 +1,7 @@
 // A sheet run on a site of its own, from the sheet's bytes to the printed bytes.
 #![tactic(auto)]
 
-ghost use Rattle.std.specs.Prelude.{◌≡◌, replicate, IfOk};
+ghost use Rattle.std.specs.Prelude.{◌≡◌, IfOk};
 ghost use Rattle.script.specs.Printed.{printed, site};
 ghost use Rattle.script.specs.Scripts.{given_by};
 ghost use Rattle.rules.specs.Replies.{called};
@@ -19,24 +19,11 @@ use std::alloc::{AllocError, Global};
 use std::marker::PhantomData;
 use store::{Fuse, Row, Store};
 
-// What the rows of answers hold before a run.
-const NO_ANSWER: Answer = Answer {
-    number: 0,
-    place: 0,
-    value: 0,
-    source: 0,
-    fault: None,
-};
-
 // The cells that writes take: each step's first number.
 fn given(heap: Global, steps: &[Step]) -> Result<Vec<u32>, AllocError>
     ensures { IfOk result (λ v. v.items ≡ given_by steps.now) }
 {
-    let mut cells = Vec::new(heap);
-    for step in steps {
-        cells.push(step.first)?;
-    }
-    Ok(cells)
+    steps.iter().map(|step| step.first).collect(heap)
 }
 
 // A row under a fuse of 1,000.
@@ -48,6 +35,8 @@ fn fused(cells: &mut [u32]) -> Fuse<Row<'_, u32>>
 }
 
 // Runs the steps on a new site of these stores, with starting session 0.
+// (The four rows stay apart, as a site's run takes them: a struct of them would be taken apart at once.)
+#[tactic(auto, unfolding(crate::specs::Plays::run_on, site::specs::Steps::run_does))]
 fn run_on<D: Store + Drop, M: Store<Cell = u32> + Drop, B: Bank<Cell = D::Cell> + Drop>(
     disk: D,
     marks: M,
@@ -66,6 +55,7 @@ fn run_on<D: Store + Drop, M: Store<Cell = u32> + Drop, B: Bank<Cell = D::Cell> 
 
 // Runs the steps on the sheet's own site: 8 number cells, 3 clients, all cells and marks 0, and every store a row
 // under a fuse of 1,000.
+#[tactic(auto, unfolding(crate::specs::Plays::run_on, script::specs::Printed::site))]
 fn run_steps(steps: &[Step], given: &[u32], answers: &mut [Answer], got: &mut [u32])
     ensures answers { answers.new ≡ (ran (called 0) site (rows steps.now given.now answers.old got.old)).answers }
     ensures got { got.new ≡ (ran (called 0) site (rows steps.now given.now answers.old got.old)).got }
@@ -91,17 +81,6 @@ fn run_steps(steps: &[Step], given: &[u32], answers: &mut [Answer], got: &mut [u
     );
 }
 
-// n times x.
-fn filled<T: Copy>(heap: Global, x: T, n: usize) -> Result<Vec<T>, AllocError>
-    ensures { IfOk result (λ v. v.items ≡ replicate n x) }
-{
-    let mut items = Vec::new(heap);
-    for _i in 0..n {
-        items.push(x)?;
-    }
-    Ok(items)
-}
-
 // What a run left in its rows.
 #[derive(Drop)]
 struct Left {
@@ -110,18 +89,20 @@ struct Left {
 }
 
 // Runs the steps on the sheet's own site, with rows for them.
+#[tactic(auto, unfolding(crate::specs::Plays::answers_to))]
 fn answer(heap: Global, steps: &[Step]) -> Result<Left, AllocError>
     ensures { IfOk result (λ l. left_by l.answers.items l.got.items ≡ answers_to steps.now) }
 {
     let given = given(heap, steps)?;
-    let mut answers = filled(heap, NO_ANSWER, steps.len())?;
-    let mut got = filled(heap, 0, steps.len())?;
+    let mut answers = vec![in heap; Answer::default(); steps.len()]?;
+    let mut got = vec![in heap; 0; steps.len()]?;
     run_steps(steps, &given, &mut answers, &mut got);
     Ok(Left { answers, got })
 }
 
 // What is printed for a sheet: at most 64 lines are read, each is a step, and the steps are run on a site of their
 // own. A refused line ends the output. For want of memory nothing is printed.
+#[tactic(auto, unfolding(crate::specs::Plays::answers_to, script::specs::Printed::printed))]
 pub fn play(heap: Global, sheet: &[u8]) -> Result<Vec<u8>, AllocError>
     ensures { IfOk result (λ v. v.items ≡ printed sheet.now) }
 {

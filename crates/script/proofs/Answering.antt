@@ -1,26 +1,14 @@
 -- One answer printed, and then the rest. Assumes nothing.
-use Rattle.std.proofs.Common.{◌≡◌, ℕ, ◌+◌, ◌<◌, ◌≤◌, min, List, [], ◌∷◌, ◌++◌, length, get_or, drop, sym, refl, ap, ◌∙◌, ⊎_elim, append_assoc, append-nil, add-one, arith, drop-cons}
-use Rattle.std.proofs.lemmas.List.{drop_all}
-use Rattle.std.proofs.lemmas.Bool.{cases_lt}
+use Rattle.std.proofs.Common.{◌≡◌, ℕ, ◌+◌, min, List, [], ◌∷◌, ◌++◌, ◌⊎◌, sym, refl, ⊎_elim, append_assoc, append-nil}
 use Rattle.sheet.specs.Text.{most}
 use Rattle.rules.specs.declared.answer.Answer.{Answer}
 use Rattle.script.specs.Scripts.{answered, answer_line, line_bytes}
 
-module _ (rs : List Answer) (gs : List ℕ) (i : ℕ) where
-  -- an answer that is left is printed first
-  answer_first : (d : Answer) (e : ℕ) → i < length rs → i < length gs
-      → answered i (drop i rs) (drop i gs) ≡ line_bytes (answer_line (min (i + 1) most) (get_or rs i d) (get_or gs i e)) ++ answered (i + 1) (drop (i + 1) rs) (drop (i + 1) gs)
-  unfolding answered
-  answer_first d e h k = rw (drop-cons rs i d h, drop-cons gs i e k, add-one) refl
-
-  -- the lines so far, with its line and the rest
-  pub one_more : (xs ys : List ℕ) (d : Answer) (e : ℕ) → i < length rs → i < length gs → ys ≡ xs ++ line_bytes (answer_line (min (i + 1) most) (get_or rs i d) (get_or gs i e))
-      → ys ++ answered (i + 1) (drop (i + 1) rs) (drop (i + 1) gs) ≡ xs ++ answered i (drop i rs) (drop i gs)
-  one_more xs ys d e h k q =
-      let rest = answered (i + 1) (drop (i + 1) rs) (drop (i + 1) gs) in
-      ap (λ (l : List ℕ). l ++ rest) q
-      ∙ append_assoc xs (line_bytes (answer_line (min (i + 1) most) (get_or rs i d) (get_or gs i e))) rest
-      ∙ ap (λ (l : List ℕ). xs ++ l) (sym (answer_first d e h k))
+-- the lines so far, with an answer's line and the rest
+pub one_more : (n m : ℕ) (xs ys : List ℕ) (a : Answer) (g : ℕ) (left rs : List Answer) (cells gs : List ℕ) → left ≡ a ∷ rs → cells ≡ g ∷ gs → m ≡ n + 1
+    → ys ≡ xs ++ line_bytes (answer_line (min (n + 1) most) a g) → ys ++ answered m rs gs ≡ xs ++ answered n left cells
+unfolding answered
+one_more n m xs ys a g left rs cells gs p q r e = rw (p, q, r, e) (append_assoc xs (line_bytes (answer_line (min (n + 1) most) a g)) (answered (n + 1) rs gs))
 
 answered_none : (n : ℕ) (rs : List Answer) → answered n rs [] ≡ []
 unfolding answered
@@ -28,9 +16,9 @@ answered_none n [] = refl
 answered_none n (a ∷ rs) = refl
 
 -- nothing is left to print
-pub all_printed : (rs : List Answer) (gs : List ℕ) (i : ℕ) (xs : List ℕ) → min (length rs) (length gs) ≤ i → xs ≡ xs ++ answered i (drop i rs) (drop i gs)
+pub all_printed : (n : ℕ) (xs : List ℕ) (rs : List Answer) (gs : List ℕ) → (rs ≡ []) ⊎ (gs ≡ []) → xs ≡ xs ++ answered n rs gs
 unfolding answered
-all_printed rs gs i xs h = ⊎_elim
-    (λ short. let e : drop i rs ≡ [] = drop_all i rs (omega arith) in rw e (sym (append-nil xs)))
-    (λ long. let e : drop i gs ≡ [] = drop_all i gs (omega arith) in rw (e, answered_none i (drop i rs)) (sym (append-nil xs)))
-    (cases_lt (length rs) (i + 1))
+all_printed n xs rs gs h = ⊎_elim
+    (λ (e : rs ≡ []). rw e (sym (append-nil xs)))
+    (λ (e : gs ≡ []). rw (e, answered_none n rs) (sym (append-nil xs)))
+    h

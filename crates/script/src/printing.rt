@@ -8,6 +8,7 @@ use sheet::OutputLine;
 use std::alloc::{AllocError, Global};
 
 // Puts a line at the end; nothing where a number has more digits than columns.
+#[tactic(auto, unfolding(crate::specs::Scripts::line_bytes))]
 fn push_line(out: &mut Vec<u8>, line: OutputLine) -> Result<(), AllocError>
     ensures { OnOk result (out.new.items ≡ out.old.items ++ line_bytes line) }
 {
@@ -29,25 +30,26 @@ fn step_number(i: usize) -> u32
 fn answer_line(step: u32, answer: Answer, got: u32) -> OutputLine
     ensures { result ≡ answer_line step answer got }
 {
+    let (value, source) = match answer.source {
+        Some(source) => (got, u32::from(u8::from(source))),
+        None => (answer.value, 0),
+    };
     OutputLine {
         step,
         answer: u32::from(answer.number),
         place: answer.place,
-        value: if answer.source == 0 {
-            answer.value
-        } else {
-            got
-        },
-        source: u32::from(answer.source),
+        value,
+        source,
     }
 }
 
 // Puts the lines of a run's answers at the end.
+#[tactic(auto, using(crate::proofs::Answering::one_more))]
 fn push_answers(out: &mut Vec<u8>, answers: &[Answer], got: &[u32]) -> Result<(), AllocError>
     ensures { OnOk result (out.new.items ≡ out.old.items ++ answered 0 answers.now got.now) }
 {
-    for i in 0..answers.len().min(got.len()) {
-        push_line(out, answer_line(step_number(i), answers[i], got[i]))?;
+    for (i, (answer, got)) in answers.iter().zip(got).enumerate() {
+        push_line(out, answer_line(step_number(i), *answer, *got))?;
     }
     Ok(())
 }

@@ -14,22 +14,20 @@ pub struct Script {
 }
 
 // Reads a sheet up to its end or its first refused line, and 64 lines at most.
+#[tactic(auto, using(crate::proofs::Lines::at_end, crate::proofs::Lines::at_refusal, crate::proofs::Lines::goes_on, crate::proofs::Lines::all_read))]
 pub fn read_script(heap: Global, sheet: &[u8]) -> Result<Script, AllocError>
     ensures { IfOk result (λ s. scripted s.steps.items s.last ≡ read_from 64 sheet.now 0) }
 {
     let mut reader = Reader::new(sheet);
     let mut steps = Vec::new(heap);
-    for _i in 0..64u32 {
-        let next = match reader.next_line() {
-            Ok(next) => next,
-            Err(refusal) => {
-                let last = Some(refusal.output());
-                return Ok(Script { steps, last });
-            }
-        };
-        match next {
-            Some(line) => steps.push(line.step())?,
-            None => return Ok(Script { steps, last: None }),
+    for _ in 0..64u32 {
+        match reader.next_line() {
+            Ok(Some(line)) => steps.push(line.step())?,
+            Ok(None) => break,
+            Err(refusal) => return Ok(Script {
+                steps,
+                last: Some(refusal.output()),
+            }),
         }
     }
     Ok(Script { steps, last: None })

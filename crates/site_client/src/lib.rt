@@ -22,23 +22,14 @@ pub fn echo<D: Store + Drop, M: Store<Cell = u32> + Drop, B: Bank<Cell = D::Cell
     ensures { Echoes v result }
 {
     let mut site = Site::make(disk, marks, bank, session);
-    match site.unfit() {
-        Some(_) => return None,
-        None => {}
+    if site.unfit().is_some() {
+        return None;
     }
-    match site.open(1) {
-        Ok(_) => {}
-        Err(_) => return None,
-    }
-    match site.write(1, 0, v) {
-        Ok(()) => {}
-        Err(_) => return None,
-    }
+    site.open(1).ok()?;
+    site.write(1, 0, v).ok()?;
     let mut cell = D::Cell::blank();
-    match site.read(1, 0, &mut cell) {
-        Ok(_) => Some(cell),
-        Err(_) => None,
-    }
+    site.read(1, 0, &mut cell).ok()?;
+    Some(cell)
 }
 
 // Begins a flush of client k's cell i, and gives it up.
@@ -51,21 +42,17 @@ pub fn begin_and_give_up<S: Calls>(site: &mut S, k: u32, i: u32) -> Result<(), S
 
 // Commits the slip's flush; a slip that comes back is given up.
 fn settle<S: Calls>(site: &mut S, slip: Slip) -> Result<(), SiteFault> {
-    match site.commit(slip) {
-        Ok(()) => Ok(()),
-        Err(Returned { slip: back, fault }) => {
-            let _ = site.give_up(back);
-            Err(fault)
-        }
-    }
+    site.commit(slip).map_err(|Returned { slip: back, fault }| {
+        let _ = site.give_up(back);
+        fault
+    })
 }
 
 // Flushes client k's cell i, writes v to it, and flushes it again: each flush has a slip of its own.
 pub fn flush_twice<S: Calls>(site: &mut S, k: u32, i: u32, v: S::Cell) -> Result<(), SiteFault> {
     let first = site.begin(k, i)?;
-    let mut held = Some(first);
-    settle(site, held.take().unwrap())?;
+    settle(site, first)?;
     site.write(k, i, v)?;
-    held = Some(site.begin(k, i)?);
-    settle(site, held.take().unwrap())
+    let second = site.begin(k, i)?;
+    settle(site, second)
 }

@@ -4,7 +4,7 @@ use Rattle.script.proofs.Lines.{onto}
 use Rattle.script.proofs.reading.read_script.Given as goal
 
 -- what is read, and then what is left to read from here, is the whole
-abbrev pub invariant-loop-i : goal.invariant-loop-i
-invariant-loop-i l =
-    (onto (vec_items l.steps) (read_from (64 - l._i) l.sheet l.reader.place) ≡ read_from 64 l.sheet 0)
+abbrev pub invariant-loop : goal.invariant-loop
+invariant-loop l =
+    (onto (vec_items l.steps) (read_from (64 - l.counter) l.sheet l.reader.place) ≡ read_from 64 l.sheet 0)
     × (l.reader.sheet.now ≡ l.sheet)
