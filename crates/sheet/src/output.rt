@@ -1,5 +1,5 @@
 // Lines of output.
-ghost use Rattle.std.specs.Prelude.{◌≡◌, true, ◌&&◌, ◌++◌, length, drop, is_ok, if◌then◌else◌, nat_le};
+ghost use Rattle.std.specs.Prelude.{◌≡◌, ◌&&◌, ◌++◌, length, drop, is_ok, OnOk, if◌then◌else◌, nat_le};
 ghost use Rattle.sheet.specs.Output.{output_fits, output_bytes, refusal_output};
 
 use crate::columns::{Columns, NoRoom};
@@ -51,7 +51,7 @@ impl OutputLine {
     // Writes the line's 26 bytes; or some of them, where a number has more digits than columns.
     fn write(&self, line: &mut [u8; 26]) -> Result<(), NoRoom>
         ensures fits { is_ok result ≡ output_fits self.now }
-        ensures bytes { is_ok result ≡ true → line.new ≡ output_bytes self.now }
+        ensures bytes { OnOk result (line.new ≡ output_bytes self.now) }
     {
         STEP.put(line, self.step)?;
         ANSWER.put(line, self.answer)?;
@@ -63,15 +63,15 @@ impl OutputLine {
     }
 }
 
-impl Refusal {
-    // The line that ends the output where the sheet is refused.
-    pub fn output(&self) -> OutputLine
-        ensures { result ≡ refusal_output self.now }
-    {
+// The line that ends the output where the sheet is refused.
+impl From<Refusal> for OutputLine {
+    ghost from_gives = { λ refusal line. line ≡ refusal_output refusal };
+
+    fn from(refusal: Refusal) -> OutputLine {
         OutputLine {
-            step: u32::try_from(self.place.line).unwrap_or(u32::MAX),
-            answer: self.cause.number(),
-            place: self.place.column,
+            step: u32::try_from(refusal.place.line).unwrap_or(u32::MAX),
+            answer: u32::from(refusal.cause),
+            place: refusal.place.column,
             value: 0,
             source: 0,
         }

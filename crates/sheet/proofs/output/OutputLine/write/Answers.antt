@@ -8,7 +8,7 @@ returns c = record {
       all_fit c.args.self.now _ _ _ _ _
       c.in_ok-put.ensures.fits c.in_ok-put-2.ensures.fits c.in_ok-put-3.ensures.fits
       c.in_ok-put-4.ensures.fits c.in_ok-put-5.ensures.fits;
-  bytes = λ _. whole_line c.args.self.now c.args.line.now
+  bytes = whole_line c.args.self.now c.args.line.now
       c.put.new.line c.put-2.new.line c.put-3.new.line c.put-4.new.line c.put-5.new.line
       _ _ _ _ _ (omega arith)
       c.in_ok-put.ensures.fits c.in_ok-put.ensures.bytes
