@@ -7,21 +7,6 @@ use Rattle.sheet.specs.Columns.{right_justified, columns_for, fits_columns, with
 use Rattle.sheet.specs.Output.{output_fits, output_bytes}
 use Rattle.sheet.specs.declared.output.OutputLine.{OutputLine}
 
--- blanks put over the front, and then the text over the rest
-pub put_right : (out text front last back : List ℕ) → length text ≤ length out
-    → front ≡ replicate (length (take (length out - length text - 0) out)) 32 → last ≡ text
-    → put_mid (length out - length text) (length (front ++ back) - (length out - length text)) (front ++ back) last ≡ right_justified (length out) text
-put_right out text front last back fits filled copied =
-    let b : ℕ = length out - length text in
-    let zs : List ℕ = front ++ back in
-    let whole : b - 0 ≡ b = omega arith in
-    let blank : front ≡ replicate b 32 = filled ∙ ap (λ k. replicate k 32) (ap (λ k. length (take k out)) whole ∙ length-take-le b out (omega arith)) in
-    let long : length front ≡ b = ap length blank ∙ length-replicate {A = ℕ} b 32 in
-    let none : post_of b (length zs - b) zs ≡ [] = drop_all (length zs - b) (drop b zs) (omega (arith, length-drop b zs)) in
-    ap (λ l. l ++ (last ++ post_of b (length zs - b) zs)) (take_at front back b long ∙ blank)
-    ∙ ap (λ l. replicate b 32 ++ (last ++ l)) none
-    ∙ ap (λ l. replicate b 32 ++ l) (append-nil last ∙ copied)
-
 -- the bytes with n in w of them, after the first i
 abbrev over : ℕ → ℕ → ℕ → List ℕ → List ℕ
 over i w n xs = take i xs ++ (columns_for w n ++ drop (i + w) xs)

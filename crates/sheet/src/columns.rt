@@ -36,6 +36,7 @@ impl Columns {
     {
         let start = self.before();
         let end = start + usize::from(self.width);
+        // tried with `get_mut`, by `?`, `let else` and `and_then`: what the line is at a refusal gets no proof
         if end > line.len() {
             return Err(NoRoom);
         }
@@ -53,12 +54,10 @@ fn put_right(out: &mut [u8], text: &[u8]) -> Result<(), NoRoom>
     ensures fits { is_ok result ≡ nat_le (length text.now) (length out.old) }
     ensures bytes { out.new ≡ (if is_ok result then right_justified (length out.old) text.now else out.old) }
 {
-    if text.len() > out.len() {
-        return Err(NoRoom);
-    }
-    let blanks = out.len() - text.len();
-    out[0..blanks].fill(b' ');
-    out[blanks..].copy_from_slice(text);
+    let blanks = out.len().checked_sub(text.len()).ok_or(NoRoom)?;
+    let (front, back) = out.split_at_mut(blanks);
+    front.fill(b' ');
+    back.copy_from_slice(text);
     Ok(())
 }
 

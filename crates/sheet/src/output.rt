@@ -39,12 +39,9 @@ impl OutputLine {
         ensures fits { is_ok result ≡ nat_le 26 (length out.old) && output_fits self.now }
         ensures bytes { out.new ≡ (if is_ok result then output_bytes self.now ++ drop 26 out.old else out.old) }
     {
-        if out.len() < 26 {
-            return Err(NoRoom);
-        }
         let mut line = [0; 26];
         self.write(&mut line)?;
-        out[0..26].copy_from_slice(&line);
+        *out.first_chunk_mut().ok_or(NoRoom)? = line;
         Ok(())
     }
 
@@ -53,6 +50,7 @@ impl OutputLine {
         ensures fits { is_ok result ≡ output_fits self.now }
         ensures bytes { OnOk result (line.new ≡ output_bytes self.now) }
     {
+        // a loop over columns and numbers would be no shorter: they would stand in a table of five lines
         STEP.put(line, self.step)?;
         ANSWER.put(line, self.answer)?;
         PLACE.put(line, self.place)?;

@@ -50,6 +50,7 @@ impl Drop for Guard<'_> {
 }
 
 // A sheet and the place of the next line in it.
+// It is no `Iterator`, which would go on forever at a refused line: the place is at its start again.
 #[derive(Drop)]
 pub struct Reader<'a> {
     sheet: &'a [u8],
