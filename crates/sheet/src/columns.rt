@@ -21,8 +21,7 @@ impl Columns {
 
     // The bytes of a line that stand in them, as many as there are.
     pub(crate) fn cut(self, line: &[u8]) -> &[u8]
-        ensures is { result.now ≡ columns_of self.first self.width line.now }
-        ensures long { length result.now ≤ self.width }
+        ensures { result.now ≡ columns_of self.first self.width line.now }
     {
         let rest = line.get(self.before()..).unwrap_or(&[]);
         rest.get(..usize::from(self.width)).unwrap_or(rest)

@@ -1,5 +1,5 @@
 // One field of a line: blank, or digits that are part of the sheet.
-ghost use Rattle.std.specs.Prelude.{◌≡◌, ◌≤◌, length, IfOk};
+ghost use Rattle.std.specs.Prelude.{◌≡◌};
 ghost use Rattle.sheet.specs.Answers.{digits_meant, field_meant, refusal_number};
 ghost use Rattle.sheet.specs.Sheet.{in_columns};
 ghost use Rattle.sheet.specs.Steps.{field_number};
@@ -68,8 +68,7 @@ impl Field<'_> {
 
 // The digits after a field's blanks; or why the field is refused.
 fn digits_in(field: &[u8]) -> Result<&[u8], Cause>
-    ensures is { digits_meant result ≡ digits_in field.now }
-    ensures long { IfOk result (λ digits. length digits.now ≤ length field.now) }
+    ensures { digits_meant result ≡ digits_in field.now }
 {
     let digits = after_blanks(field);
     if !all_digits(digits) {

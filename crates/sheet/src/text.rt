@@ -13,8 +13,7 @@ pub(crate) fn ends_at_32(s: &[u8]) -> bool
 
 // What follows the blanks in front.
 pub(crate) fn after_blanks(s: &[u8]) -> &[u8]
-    ensures is { result.now ≡ after_blanks s.now }
-    ensures long { length result.now ≤ length s.now }
+    ensures { result.now ≡ after_blanks s.now }
 {
     let blanks = s.iter().take_while(|b| **b == b' ').count();
     &s[blanks..]

@@ -6,8 +6,8 @@ use Rattle.std.proofs.lemmas.List.{take_rest}
 use Rattle.std.proofs.lemmas.List.Folds.{length-prefix_len}
 use Rattle.sheet.proofs.text.after_blanks.Goals as goal
 
-pub returns-clause-is : goal.returns-clause-is
-returns-clause-is c =
+pub returns : goal.returns
+returns c =
     let s = c.args.s.now in
     take_rest s c.count-blanks.result
     ∙ ap (λ n. drop n s)
