@@ -8,7 +8,7 @@ use Rattle.std.specs.Option.{MatchOption, option_and_then}
 use Rattle.std.specs.Str.{all_ascii_digits}
 use Rattle.std.specs.ControlFlow.{continue_value}
 use Rattle.std.specs.declared.ops.ControlFlow.{ControlFlow}
-use Rattle.std.proofs.lemmas.Bool.{le-leb, lt-leb, leb-true, leb-false}
+use Rattle.std.proofs.lemmas.Bool.{le-leb, leb-true, leb-false}
 use Rattle.std.proofs.lemmas.Iterator.{YieldsList}
 use Rattle.sheet.specs.Text.{most, with_digit}
 
@@ -65,9 +65,7 @@ after n bs = cond (all_ascii_digits bs) (cond (leb (fold (λ m b. 10 * m + (b - 
 
 -- it is too large where n is
 past : (bs : List ℕ) (n : ℕ) → most < n → after n bs ≡ None
-past bs n h =
-    ap (λ t. cond (all_ascii_digits bs) (cond t (Some (fold (λ m b. 10 * m + (b - 48)) n bs)) None) None) (lt-leb _ most (omega (arith, grows bs n)))
-    ∙ elim (all_ascii_digits bs) as (λ v. ◌≡◌ {A = Option ℕ} (cond v None None) None) [ true ↦ refl | false ↦ refl ]
+past bs n h = grind (arith, grows bs n)
 
 -- one digit more, which may be too large
 more : (bs : List ℕ) (m : ℕ) (t : Bool) → leb m most ≡ t → (m ≤ most → tried with_digit m bs ≡ after m bs) → option_and_then (λ i. tried with_digit i bs) (cond t (Some m) None) ≡ after m bs

@@ -1,12 +1,12 @@
 -- Digits that are handed out are the sheet's own.
-use Rattle.std.proofs.Common.{◌≡◌, ℕ, zero, suc, ◌+◌, ◌-◌, ◌*◌, ◌/◌, ◌≤◌, Bool, true, false, cond, eqb, ◌==◌, leb, List, [], ◌∷◌, length, take, drop, is_some, Some, None, Ok, Err, sym, refl, ap, ◌∙◌, arith}
+use Rattle.std.proofs.Common.{◌≡◌, ℕ, zero, suc, ◌+◌, ◌-◌, ◌*◌, ◌/◌, ◌≤◌, Bool, true, false, cond, eqb, ◌==◌, leb, List, [], ◌∷◌, length, take, drop, is_some, Some, Ok, Err, sym, refl, ap, ◌∙◌, arith}
 use Rattle.std.specs.Str.{all_ascii_digits}
 use Rattle.std.specs.List.{prefix_len}
 use Rattle.std.proofs.lemmas.List.{drop-drop, length-drop}
 use Rattle.std.proofs.lemmas.List.Sums.{prefix_len-le-length}
 use Rattle.std.proofs.lemmas.Slice.{between_is}
 use Rattle.sheet.specs.Columns.{columns_of}
-use Rattle.sheet.specs.Text.{ends_at_32, after_blanks, digits_value, most, number_of}
+use Rattle.sheet.specs.Text.{ends_at_32, after_blanks, digits_value, number_of}
 use Rattle.sheet.specs.Sheet.{blank_at, digits_at, FieldAnswer, field, refused_field, LineAnswer, end, fields, refused, placed, in_columns, and_then, line_number, fields_of}
 use Rattle.sheet.specs.Laws.{Stands, Own, AllOwn, HandsOutItsOwn}
 
@@ -32,13 +32,7 @@ part_tail n w ds xs e =
 -- digits that are accepted write a number that a field holds
 holds : (ds : List ℕ) → is_some (number_of ds) ≡ true → number_of ds ≡ Some (digits_value ds)
 unfolding number_of
-holds ds =
-    elim (all_ascii_digits ds) as (λ a. is_some {T = ℕ} (cond a (cond (leb (digits_value ds) most) (Some (digits_value ds)) None) None) ≡ true → cond a (cond (leb (digits_value ds) most) (Some (digits_value ds)) None) None ≡ Some (digits_value ds)) [
-      | true ↦
-          elim (leb (digits_value ds) most) as (λ b. is_some {T = ℕ} (cond b (Some (digits_value ds)) None) ≡ true → cond b (Some (digits_value ds)) None ≡ Some (digits_value ds))
-          [ true ↦ λ e. refl | false ↦ λ e. grind arith ]
-      | false ↦ λ e. grind arith
-    ]
+holds ds = grind arith
 
 -- a field that is not refused has its digits in the sheet
 abbrev OwnField : List ℕ → FieldAnswer → Type 0
