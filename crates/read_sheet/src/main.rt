@@ -25,10 +25,10 @@ fn print_step(out: &mut impl Write, line: usize, step: Step) -> io::Result<()> {
 // Prints a line in columns, and nothing where a number has too many digits for them.
 fn print_output(out: &mut impl Write, line: OutputLine) -> io::Result<()> {
     let mut bytes = [0; 26];
-    match line.put(&mut bytes) {
-        Ok(()) => out.write_all(&bytes),
-        Err(_) => Ok(()),
+    if line.put(&mut bytes).is_ok() {
+        out.write_all(&bytes)?;
     }
+    Ok(())
 }
 
 fn main(rt: HostRuntime) -> io::Result<()> {
@@ -38,9 +38,9 @@ fn main(rt: HostRuntime) -> io::Result<()> {
     let mut reader = Reader::new(&text);
     for line in 1..=64 {
         match reader.next_line() {
-            Ok(Some(fields)) => print_step(&mut out, line, fields.step())?,
+            Ok(Some(fields)) => print_step(&mut out, line, Step::from(fields))?,
             Ok(None) => return Ok(()),
-            Err(refusal) => return print_output(&mut out, refusal.output()),
+            Err(refusal) => return print_output(&mut out, OutputLine::from(refusal)),
         }
     }
     Ok(())

@@ -1,4 +1,3 @@
 pub mod Justified
 pub mod Own
-pub mod Scans
-pub mod Written
+pub mod Numbers

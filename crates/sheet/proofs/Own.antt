@@ -1,30 +1,21 @@
 -- Digits that are handed out are the sheet's own.
-use Rattle.std.proofs.Common.{◌≡◌, ℕ, zero, suc, ◌+◌, ◌-◌, ◌*◌, ◌/◌, ◌≤◌, Bool, true, false, cond, eqb, leb, List, [], ◌∷◌, length, take, drop, is_some, Some, None, Ok, Err, sym, refl, ap, ◌∙◌, arith}
+use Rattle.std.proofs.Common.{◌≡◌, ℕ, zero, suc, ◌+◌, ◌-◌, ◌*◌, ◌/◌, ◌≤◌, Bool, true, false, cond, eqb, ◌==◌, leb, List, [], ◌∷◌, length, take, drop, is_some, Some, Ok, Err, sym, refl, ap, ◌∙◌, arith}
 use Rattle.std.specs.Str.{all_ascii_digits}
-use Rattle.std.proofs.lemmas.List.{drop-drop}
+use Rattle.std.specs.List.{prefix_len}
+use Rattle.std.proofs.lemmas.List.{drop-drop, length-drop}
+use Rattle.std.proofs.lemmas.List.Sums.{prefix_len-le-length}
 use Rattle.std.proofs.lemmas.Slice.{between_is}
 use Rattle.sheet.specs.Columns.{columns_of}
-use Rattle.sheet.specs.Text.{ends_at_32, after_blanks, digits_value, most, number_of}
+use Rattle.sheet.specs.Text.{ends_at_32, after_blanks, digits_value, number_of}
 use Rattle.sheet.specs.Sheet.{blank_at, digits_at, FieldAnswer, field, refused_field, LineAnswer, end, fields, refused, placed, in_columns, and_then, line_number, fields_of}
 use Rattle.sheet.specs.Laws.{Stands, Own, AllOwn, HandsOutItsOwn}
 
--- there are no more bytes after the blanks than before
-after_le : (bs : List ℕ) → length (after_blanks bs) ≤ length bs
-after_le [] = omega arith
-after_le (b ∷ bs) =
-    elim (eqb b 32) as (λ t. length (cond t (after_blanks bs) (b ∷ bs)) ≤ suc (length bs))
-    [ true ↦ omega (arith, after_le bs) | false ↦ omega arith ]
-
 -- what follows the blanks is a tail
 after_drop : (bs : List ℕ) → after_blanks bs ≡ drop (length bs - length (after_blanks bs)) bs
-after_drop [] = refl
-after_drop (b ∷ bs) =
-    elim (eqb b 32) as (λ t. cond t (after_blanks bs) (b ∷ bs) ≡ drop (suc (length bs) - length (cond t (after_blanks bs) (b ∷ bs))) (b ∷ bs)) [
-      | true ↦ let h = after_le bs in
-          let e : suc (length bs) - length (after_blanks bs) ≡ suc (length bs - length (after_blanks bs)) = omega arith in
-          after_drop bs ∙ sym (ap (λ k. drop k (b ∷ bs)) e)
-      | false ↦ let e : suc (length bs) - suc (length bs) ≡ 0 = omega arith in sym (ap (λ k. drop k (b ∷ bs)) e)
-    ]
+after_drop bs =
+    let blanks : ℕ = prefix_len (λ b. b == 32) bs in
+    let e : length bs - length (drop blanks bs) ≡ blanks = omega (arith, length-drop blanks bs, prefix_len-le-length (λ b. b == 32) bs) in
+    sym (ap (λ k. drop k bs) e)
 
 -- a front, cut by its own length
 prefix : (m : ℕ) (xs : List ℕ) → take (length (take m xs)) xs ≡ take m xs
@@ -41,13 +32,7 @@ part_tail n w ds xs e =
 -- digits that are accepted write a number that a field holds
 holds : (ds : List ℕ) → is_some (number_of ds) ≡ true → number_of ds ≡ Some (digits_value ds)
 unfolding number_of
-holds ds =
-    elim (all_ascii_digits ds) as (λ a. is_some {T = ℕ} (cond a (cond (leb (digits_value ds) most) (Some (digits_value ds)) None) None) ≡ true → cond a (cond (leb (digits_value ds) most) (Some (digits_value ds)) None) None ≡ Some (digits_value ds)) [
-      | true ↦
-          elim (leb (digits_value ds) most) as (λ b. is_some {T = ℕ} (cond b (Some (digits_value ds)) None) ≡ true → cond b (Some (digits_value ds)) None ≡ Some (digits_value ds))
-          [ true ↦ λ e. refl | false ↦ λ e. grind arith ]
-      | false ↦ λ e. grind arith
-    ]
+holds ds = grind arith
 
 -- a field that is not refused has its digits in the sheet
 abbrev OwnField : List ℕ → FieldAnswer → Type 0

@@ -2,7 +2,7 @@
 ghost use Rattle.std.specs.Prelude.{◌≡◌, ◌+◌, ◌-◌, ◌<◌, ◌≤◌, ◌&&◌, length, drop, is_ok, if◌then◌else◌, decimal, nat_le};
 ghost use Rattle.sheet.specs.Columns.{columns_for, columns_of, fits_columns, right_justified, with_columns};
 
-use crate::text::{bytes_from, first_bytes};
+use itoa::Buffer;
 
 // Some columns of a line: the first, counted from 1, and how many.
 #[derive(Clone, Copy)]
@@ -21,10 +21,10 @@ impl Columns {
 
     // The bytes of a line that stand in them, as many as there are.
     pub(crate) fn cut(self, line: &[u8]) -> &[u8]
-        ensures is { result.now ≡ columns_of self.first self.width line.now }
-        ensures long { length result.now ≤ self.width }
+        ensures { result.now ≡ columns_of self.first self.width line.now }
     {
-        first_bytes(bytes_from(line, self.before()), usize::from(self.width))
+        let rest = line.get(self.before()..).unwrap_or(&[]);
+        rest.get(..usize::from(self.width)).unwrap_or(rest)
     }
 
     // Puts a number into them; or, where they are past the line's end or it has
@@ -35,6 +35,7 @@ impl Columns {
     {
         let start = self.before();
         let end = start + usize::from(self.width);
+        // tried with `get_mut`, by `?`, `let else` and `and_then`: what the line is at a refusal gets no proof
         if end > line.len() {
             return Err(NoRoom);
         }
@@ -46,43 +47,16 @@ impl Columns {
 #[derive(Clone, Copy, Debug)]
 pub struct NoRoom;
 
-// Writes a number's digits to the end of the bytes, the last digit first, and says where they begin.
-fn write_digits(out: &mut [u8; 10], n: u32) -> usize
-    ensures within { result < 10 }
-    ensures digits { drop result out.new ≡ decimal n }
-{
-    let mut i = 10;
-    let mut rest = n;
-    loop {
-        i -= 1;
-        out[i] = b'0' + (rest % 10) as u8;
-        if rest < 10 {
-            return i;
-        }
-        rest /= 10;
-    }
-}
-
-// A number's decimal digits, written into the buffer.
-fn digits_of(buffer: &mut [u8; 10], n: u32) -> &[u8]
-    ensures { result.now ≡ decimal n }
-{
-    let start = write_digits(buffer, n);
-    &buffer[start..]
-}
-
 // Puts a text at the end of `out` and blanks before it; or, where it is longer
 // than `out`, leaves that as it is.
 fn put_right(out: &mut [u8], text: &[u8]) -> Result<(), NoRoom>
     ensures fits { is_ok result ≡ nat_le (length text.now) (length out.old) }
     ensures bytes { out.new ≡ (if is_ok result then right_justified (length out.old) text.now else out.old) }
 {
-    if text.len() > out.len() {
-        return Err(NoRoom);
-    }
-    let blanks = out.len() - text.len();
-    out[0..blanks].fill(b' ');
-    out[blanks..].copy_from_slice(text);
+    let blanks = out.len().checked_sub(text.len()).ok_or(NoRoom)?;
+    let (front, back) = out.split_at_mut(blanks);
+    front.fill(b' ');
+    back.copy_from_slice(text);
     Ok(())
 }
 
@@ -92,6 +66,5 @@ pub fn put_number(out: &mut [u8], n: u32) -> Result<(), NoRoom>
     ensures fits { is_ok result ≡ fits_columns (length out.old) n }
     ensures bytes { out.new ≡ (if is_ok result then columns_for (length out.old) n else out.old) }
 {
-    let mut buffer = [b'0'; 10];
-    put_right(out, digits_of(&mut buffer, n))
+    put_right(out, Buffer::new().format(n).as_bytes())
 }

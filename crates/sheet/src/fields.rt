@@ -1,5 +1,5 @@
 // One field of a line: blank, or digits that are part of the sheet.
-ghost use Rattle.std.specs.Prelude.{◌≡◌, ◌≤◌, length, IfOk};
+ghost use Rattle.std.specs.Prelude.{◌≡◌};
 ghost use Rattle.sheet.specs.Answers.{digits_meant, field_meant, refusal_number};
 ghost use Rattle.sheet.specs.Sheet.{in_columns};
 ghost use Rattle.sheet.specs.Steps.{field_number};
@@ -41,12 +41,12 @@ pub struct Refusal {
     pub place: Place,
 }
 
-impl Cause {
-    // The refusal's number.
-    pub fn number(self) -> u32
-        ensures { result ≡ refusal_number self }
-    {
-        match self {
+// The refusal's number.
+impl From<Cause> for u32 {
+    ghost from_gives = { λ cause n. n ≡ refusal_number cause };
+
+    fn from(cause: Cause) -> u32 {
+        match cause {
             Cause::LineEnd => 31,
             Cause::NotDigits => 32,
             Cause::TooLarge => 34,
@@ -68,20 +68,18 @@ impl Field<'_> {
 
 // The digits after a field's blanks; or why the field is refused.
 fn digits_in(field: &[u8]) -> Result<&[u8], Cause>
-    ensures is { digits_meant result ≡ digits_in field.now }
-    ensures long { IfOk result (λ digits. length digits.now ≤ length field.now) }
+    ensures { digits_meant result ≡ digits_in field.now }
 {
     let digits = after_blanks(field);
     if !all_digits(digits) {
         return Err(Cause::NotDigits);
     }
-    if number(digits).is_none() {
-        return Err(Cause::TooLarge);
-    }
+    number(digits).ok_or(Cause::TooLarge)?;
     Ok(digits)
 }
 
 // The field in these columns of a line that begins with these bytes.
+#[tactic(auto, unfolding(crate::specs::Sheet::in_columns))]
 pub(crate) fn read_field<'a>(
     bytes: &'a [u8],
     line: usize,
@@ -92,14 +90,10 @@ pub(crate) fn read_field<'a>(
     let field = columns.cut(bytes);
     let column = u32::from(columns.first);
     let place = Place { line, column };
-    match digits_in(field) {
-        Err(cause) => Err(Refusal { cause, place }),
-        Ok(digits) => {
-            if digits.is_empty() {
-                return Ok(Field::Blank(place));
-            }
-            let column = column + (field.len() - digits.len()) as u32;
-            Ok(Field::Digits(Place { line, column }, digits))
-        }
+    let digits = digits_in(field).map_err(|cause| Refusal { cause, place })?;
+    if digits.is_empty() {
+        return Ok(Field::Blank(place));
     }
+    let column = column + (field.len() - digits.len()) as u32;
+    Ok(Field::Digits(Place { line, column }, digits))
 }

@@ -15,17 +15,17 @@ pub struct Line<'a> {
     pub second: Field<'a>,
 }
 
-impl Line<'_> {
-    // The line's numbers.
-    pub fn step(&self) -> Step
-        ensures { result ≡ step_of self.now }
-    {
+// The line's numbers.
+impl From<Line<'_>> for Step {
+    ghost from_gives = { λ line step. step ≡ step_of line };
+
+    fn from(line: Line<'_>) -> Step {
         Step {
-            call: self.call.value(),
-            client: self.client.value(),
-            cell: self.cell.value(),
-            first: self.first.value(),
-            second: self.second.value(),
+            call: line.call.value(),
+            client: line.client.value(),
+            cell: line.cell.value(),
+            first: line.first.value(),
+            second: line.second.value(),
         }
     }
 }

@@ -1,5 +1,5 @@
 // Lines of output.
-ghost use Rattle.std.specs.Prelude.{◌≡◌, true, ◌&&◌, ◌++◌, length, drop, is_ok, if◌then◌else◌, nat_le};
+ghost use Rattle.std.specs.Prelude.{◌≡◌, ◌&&◌, ◌++◌, length, drop, is_ok, OnOk, if◌then◌else◌, nat_le};
 ghost use Rattle.sheet.specs.Output.{output_fits, output_bytes, refusal_output};
 
 use crate::columns::{Columns, NoRoom};
@@ -39,20 +39,18 @@ impl OutputLine {
         ensures fits { is_ok result ≡ nat_le 26 (length out.old) && output_fits self.now }
         ensures bytes { out.new ≡ (if is_ok result then output_bytes self.now ++ drop 26 out.old else out.old) }
     {
-        if out.len() < 26 {
-            return Err(NoRoom);
-        }
         let mut line = [0; 26];
         self.write(&mut line)?;
-        out[0..26].copy_from_slice(&line);
+        *out.first_chunk_mut().ok_or(NoRoom)? = line;
         Ok(())
     }
 
     // Writes the line's 26 bytes; or some of them, where a number has more digits than columns.
     fn write(&self, line: &mut [u8; 26]) -> Result<(), NoRoom>
         ensures fits { is_ok result ≡ output_fits self.now }
-        ensures bytes { is_ok result ≡ true → line.new ≡ output_bytes self.now }
+        ensures bytes { OnOk result (line.new ≡ output_bytes self.now) }
     {
+        // a loop over columns and numbers would be no shorter: they would stand in a table of five lines
         STEP.put(line, self.step)?;
         ANSWER.put(line, self.answer)?;
         PLACE.put(line, self.place)?;
@@ -63,15 +61,15 @@ impl OutputLine {
     }
 }
 
-impl Refusal {
-    // The line that ends the output where the sheet is refused.
-    pub fn output(&self) -> OutputLine
-        ensures { result ≡ refusal_output self.now }
-    {
+// The line that ends the output where the sheet is refused.
+impl From<Refusal> for OutputLine {
+    ghost from_gives = { λ refusal line. line ≡ refusal_output refusal };
+
+    fn from(refusal: Refusal) -> OutputLine {
         OutputLine {
-            step: u32::try_from(self.place.line).unwrap_or(u32::MAX),
-            answer: self.cause.number(),
-            place: self.place.column,
+            step: u32::try_from(refusal.place.line).unwrap_or(u32::MAX),
+            answer: u32::from(refusal.cause),
+            place: refusal.place.column,
             value: 0,
             source: 0,
         }

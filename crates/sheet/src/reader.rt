@@ -1,5 +1,5 @@
 // The reader of a sheet, which stands at the start of a line between calls.
-ghost use Rattle.std.specs.Prelude.{◌≡◌, ◌+◌, true, is_ok, if◌then◌else◌};
+ghost use Rattle.std.specs.Prelude.{◌≡◌, OnOk, if◌then◌else◌};
 ghost use Rattle.sheet.specs.Answers.{line_meant};
 ghost use Rattle.sheet.specs.Laws.{HandsOutItsOwn};
 ghost use Rattle.sheet.specs.Sheet.{line_of, place_after};
@@ -7,7 +7,7 @@ ghost use Rattle.sheet.specs.Sheet.{line_of, place_after};
 use crate::columns::Columns;
 use crate::fields::{Cause, Place, Refusal, read_field};
 use crate::lines::Line;
-use crate::text::{bytes_from, ends_at_32};
+use crate::text::ends_at_32;
 
 // The columns of a line's fields.
 const CALL: Columns = Columns { first: 1, width: 2 };
@@ -50,6 +50,7 @@ impl Drop for Guard<'_> {
 }
 
 // A sheet and the place of the next line in it.
+// It is no `Iterator`, which would go on forever at a refused line: the place is at its start again.
 #[derive(Drop)]
 pub struct Reader<'a> {
     sheet: &'a [u8],
@@ -86,40 +87,35 @@ impl<'a> Reader<'a> {
 // The line at the place, which moves on field by field: past the line where it is accepted.
 fn read_line<'a>(sheet: &'a [u8], place: &mut usize) -> Result<Option<Line<'a>>, Refusal>
     ensures line { line_meant result ≡ line_of sheet.now place.old }
-    ensures moved { is_ok result ≡ true → place.new ≡ place_after (line_meant result) place.old }
+    ensures moved { OnOk result (place.new ≡ place_after (line_meant result) place.old) }
 {
     if *place >= sheet.len() {
         return Ok(None);
     }
     let line = *place / 32 + 1;
-    let rest = bytes_from(sheet, *place);
+    let rest = &sheet[*place..];
     if !ends_at_32(rest) {
         let cause = Cause::LineEnd;
         let place = Place { line, column: 1 };
         return Err(Refusal { cause, place });
     }
-    let call = read_field(rest, line, CALL)?;
-    *place += usize::from(CALL.width);
-    let client = read_field(rest, line, CLIENT)?;
-    *place += usize::from(CLIENT.width);
-    let cell = read_field(rest, line, CELL)?;
-    *place += usize::from(CELL.width);
-    let first = read_field(rest, line, FIRST)?;
-    *place += usize::from(FIRST.width);
-    let second = read_field(rest, line, SECOND)?;
-    *place += usize::from(SECOND.width) + 1;
-    Ok(Some(Line {
-        call,
-        client,
-        cell,
-        first,
-        second,
-    }))
+    let mut field = |columns: Columns| {
+        let field = read_field(rest, line, columns)?;
+        *place += usize::from(columns.width);
+        Ok(field)
+    };
+    let fields = Line {
+        call: field(CALL)?,
+        client: field(CLIENT)?,
+        cell: field(CELL)?,
+        first: field(FIRST)?,
+        second: field(SECOND)?,
+    };
+    *place += 1;
+    Ok(Some(fields))
 }
 
 // Digits that are handed out are the sheet's own bytes at their line and column, whatever the sheet.
-pub fn hands_out_its_own() -> u8
+pub fn hands_out_its_own()
     ensures { HandsOutItsOwn }
-{
-    0
-}
+{}

@@ -1,27 +1,12 @@
-use Rattle.std.proofs.Common.{◌+◌, sym, ◌∙◌, arith, rules}
-use Rattle.std.proofs.lemmas.List.{at_drop_all}
-use Rattle.std.proofs.lemmas.Bool.{eqb-true}
-use Rattle.sheet.specs.Text.{feed_from, ends_at_32}
-use Rattle.sheet.proofs.Scans.{feed_yes, feed_no, eq_suc}
+use Rattle.std.proofs.Common.{Some, nat_eq, ap, ◌==◌, ◌∙◌, rules}
+use Rattle.std.specs.Option.{option_eq}
+use Rattle.std.proofs.lemmas.Iterator.{YieldsList-from_slice}
+use Rattle.std.proofs.lemmas.Iterator.Search.{position_from_yields_List}
+use Rattle.sheet.specs.Text.{ends_at_32}
 use Rattle.sheet.proofs.text.ends_at_32.Goals as goal
 
-pub returns-then-b-eq10 : goal.returns-then-b-eq10
+pub returns-clause-is : goal.returns-clause-is
 unfolding ends_at_32
-returns-then-b-eq10 c = record {
-  is =
-      eq_suc c.loop-i.i 31
-      ∙ sym (feed_yes c.args.s.now c.loop-i.i _ 32 c.loop-i-test.true c.if-b-eq10.true)
-      ∙ c.loop-i.invariant;
-  long = λ e. omega (arith, eqb-true c.loop-i.i 31 e);
-}
-
-pub loop-i-preserved : goal.loop-i-preserved
-loop-i-preserved c =
-    feed_no c.args.s.now c.loop-i.i _ 32 c.loop-i-test.true c.if-b-eq10.false ∙ c.loop-i.invariant
-
-pub returns : goal.returns
-unfolding ends_at_32
-returns c = record {
-  is = sym (at_drop_all (feed_from (c.loop-i.i + 1) 32) c.args.s.now c.loop-i.i c.loop-i-test.false) ∙ c.loop-i.invariant;
-  long = search rules;
-}
+returns-clause-is c =
+    c.eq.ensures
+    ∙ ap (λ i. option_eq nat_eq i (Some 31)) (position_from_yields_List (λ b. b == 10) _ _ _ c.position.ensures.ran (YieldsList-from_slice c.args.s.now (cc)) (λ x b q k. search rules))
