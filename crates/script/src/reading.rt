@@ -22,11 +22,11 @@ pub fn read_script(heap: Global, sheet: &[u8]) -> Result<Script, AllocError>
     let mut steps = Vec::new(heap);
     for _ in 0..64u32 {
         match reader.next_line() {
-            Ok(Some(line)) => steps.push(line.step())?,
+            Ok(Some(line)) => steps.push(Step::from(line))?,
             Ok(None) => break,
             Err(refusal) => return Ok(Script {
                 steps,
-                last: Some(refusal.output()),
+                last: Some(OutputLine::from(refusal)),
             }),
         }
     }
