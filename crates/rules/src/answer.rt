@@ -29,7 +29,8 @@ impl From<Source> for u8 {
 }
 
 // The answer to a call: 0 or the refusal's number; the cell that it is about; a session, a turn or a count;
-// at an accepted read where its cell came from; a store's fault.
+// at an accepted read where its cell came from; a store's fault. It is no `Result`: a row shows plain numbers,
+// and a refusal's place and value stand where those of an accepted call do.
 #[derive(Clone, Copy, Default)]
 pub struct Answer {
     pub number: u8,

@@ -10,7 +10,7 @@ use Rattle.rules.specs.declared.answer.Source.{Source}
 use Rattle.rules.proofs.Carried.{read_carried, begin_carried, commit_carried}
 use Rattle.site.specs.declared.slip.Slip.{Slip}
 use Rattle.site.specs.declared.slip.Returned.{Returned}
-use Rattle.site.specs.Promises.{reading, source_of, cell_or, read_shown, read_does}
+use Rattle.site.specs.Promises.{source_of, cell_or, read_shown}
 use Rattle.site.specs.Slips.{slip_given, flush_given, begin_given, slip_back, fault_of, Settled, settled, commit_flush, commit_given}
 
 given_is : (r : Result Flush SiteFault) → flush_given (slip_given r) ≡ r
@@ -33,10 +33,6 @@ settled_is {V} blank s s' n r e =
     ∙ ap (outcome (commit_flush blank s n.flush).state) (back_is n (commit_flush blank s n.flush).answer)
 
 module _ {V : Type 0} (blank : V) (s s' : State V) where
-  pub read_promised : (k i : ℕ) (old : V) (r : Result (V × Source) SiteFault) → outcome s' r ≡ read_call s k i → reading s' (source_of r) (cell_or old r) ≡ read_does s k i old
-  unfolding read_does
-  read_promised k i old r e = ap (λ (o : Outcome V (V × Source)). reading o.state (source_of o.answer) (cell_or old o.answer)) e
-
   -- by what a read answered and left in the caller's cell
   shown_is : (i : ℕ) (old : V) (r : Result (V × Source) SiteFault) → read_shown i (cell_or old r) (source_of r) ≡ read_reply i r
   shown_is i old (Ok x) = refl

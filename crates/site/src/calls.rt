@@ -30,7 +30,7 @@ pub trait Calls {
     ghost state: { Self → State Self.Cell };
 
     // What the stores stand on besides their cells and lives, as the lender's memory around them; no call
-    // changes it.
+    // changes it, which each says: it is of before and after, so no invariant holds it.
     ghost Rest: { Type 0 };
 
     ghost rest: { Self → Rest };
@@ -100,6 +100,7 @@ pub trait Calls {
     // Makes the steps' calls in order: each takes its cell from `given` if it writes, and leaves its answer and,
     // at an accepted read, the cell got. A begun flush's slip is noted, and taken up by a later commit or give
     // up. A refused step ends only itself; rows that are not equally long are refused and left as they are.
+    // (The rows are lent one by one: of a struct that lends all four, clauses would say `rows.exit.1.1.0.now`.)
     fn run(
         &mut self,
         steps: &[Step],

@@ -54,6 +54,8 @@ pub(crate) fn no_reply<C>(fault: SiteFault) -> Done<C>
     plain(refused(0, 0, fault))
 }
 
+// Each kind of result has its short function: one for all would have a closure for the value at each call.
+
 // An open's value is the session.
 pub(crate) fn open_reply<C>(r: Result<u32, SiteFault>) -> Done<C>
     ensures { as_reply result ≡ open_reply r }

@@ -8,6 +8,7 @@ use records::records::Flush;
 
 // The right to finish a flush. It cannot be copied, and may be let go only once it is spent, which only a
 // site does, when the slip is handed in.
+// (A flag, and not a second type for the spent: the slip's drop asks for it.)
 pub struct Slip {
     flush: Flush,
     spent: bool,

@@ -87,6 +87,7 @@ impl<D: Store, M: Store<Cell = u32>, B: Bank<Cell = D::Cell>> Site<D, M, B> {
     {
         let k = step.client;
         let i = step.cell;
+        // a call's number goes to its work in this one match: an enum of the ten would be matched once more
         match step.call {
             1 => open_reply(self.do_open(k)),
             2 => read_reply(i, self.do_read(k, i)),
@@ -130,6 +131,7 @@ impl<D: Store, M: Store<Cell = u32>, B: Bank<Cell = D::Cell>> Site<D, M, B> {
         if given.len() != n || answers.len() != n || got.len() != n {
             return Err(SiteFault::RowsUnequal);
         }
+        // by index: with the rows zipped, what is written through `iter_mut` got no proof
         for i in 0..n {
             self.step(steps[i], given[i], &mut answers[i], &mut got[i]);
         }

@@ -1,6 +1,6 @@
 use Rattle.std.proofs.Common.{◌+◌, ◌-◌, Err, sym, ◌∙◌, arith}
 use Rattle.site.specs.Means.{site_state}
-use Rattle.site.proofs.Sweeping.{sweep_none, sweep_once, sweep_next, byte_le}
+use Rattle.site.proofs.Sweeping.{sweep_once, sweep_next, byte_le}
 use Rattle.site.proofs.site.Site.sweep_all.Goals as goal
 
 pub loop-i-preserved : goal.loop-i-preserved

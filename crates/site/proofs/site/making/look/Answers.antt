@@ -1,5 +1,5 @@
 use Rattle.std.proofs.Common.{◌+◌, ◌-◌, sym, ◌∙◌, arith}
-use Rattle.site.proofs.Makings.{look_none, look_unread, look_above, look_next}
+use Rattle.site.proofs.Makings.{look_above, look_next}
 use Rattle.site.proofs.site.making.look.Goals as goal
 
 pub returns-in-Ok-2 : goal.returns-in-Ok-2
