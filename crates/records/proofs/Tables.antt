@@ -1,5 +1,6 @@
 -- What the table's reads and changes come to, in terms of the records that it is seen as.
-use Rattle.std.proofs.Common.{◌≡◌, ℕ, zero, suc, ◌+◌, ◌-◌, ◌<◌, Bool, true, false, cond, List, [], ◌∷◌, length, get_or, set, Some, None, Option, unwrap_or, slice_get, sym, refl, ap, ◌∙◌, add-one, arith}
+use Rattle.std.proofs.Common.{◌≤◌, ◌≡◌, ℕ, zero, suc, ◌+◌, ◌<◌, Bool, true, false, cond, List, [], ◌∷◌, length, get_or, set, Some, None, Option, MatchOption, ◌⊎◌, inl, inr, unwrap_or, slice_get, sym, refl, ap, ◌∙◌, arith}
+use Rattle.std.proofs.lemmas.Bool.{cases_lt}
 use Rattle.std.proofs.lemmas.Option.{slice_get-get_or, slice_get_past}
 use Rattle.std.specs.Borrow.{Bor}
 use Rattle.std.specs.Option.{option_copied, option_map}
@@ -67,18 +68,28 @@ client_out t k s = asked_out t.clients k (λ c. c) s
 pub change_out : (t : Records) (k : ℕ) → Stands t.clients k None → (f : ClientRecord → ClientRecord) → t ≡ with_clients t (changed f t.clients k)
 change_out t k s f = ap (with_clients t) (sym (changed_out t.clients k f s))
 
--- a search's first number, and its end
-pub first_none : (f : ℕ → Bool) (n i : ℕ) → n ≡ 0 → first_from f n i ≡ None
+-- the first number that passes, by what is said of the numbers
+first_after : (p : ℕ → Bool) (n i : ℕ) → ((j : ℕ) → i ≤ j → j < i + n → p j ≡ false) → first_from p n i ≡ None
 unfolding first_from
-first_none f n i e = ap (λ m. first_from f m i) e
+first_after p zero i h = refl
+first_after p (suc n) i h =
+    ap (λ b. cond b (Some i) (first_from p n (suc i))) (h i (omega arith) (omega arith))
+    ∙ first_after p n (suc i) (λ j l u. h j (omega arith) (omega arith))
 
-first_more : (f : ℕ → Bool) (n i : ℕ) → 0 < n → first_from f n i ≡ cond (f i) (Some i) (first_from f (n - 1) (suc i))
+first_at : (p : ℕ → Bool) (n i j : ℕ) → i ≤ j → j < i + n → p j ≡ true → ((k : ℕ) → i ≤ k → k < j → p k ≡ false) → first_from p n i ≡ Some j
 unfolding first_from
-first_more f n i h = let e : n ≡ suc (n - 1) = omega arith in ap (λ m. first_from f m i) e
+first_at p zero i j l u e h = absurd (omega arith)
+first_at p (suc n) i j l u e h =
+    by (cases_lt i j) (λ s. first_at p n (suc i) j (omega arith) (omega arith) e (λ k a b. h k (omega arith) b))
+  where
+    by : (i < j) ⊎ (j ≤ i) → (i < j → first_from p n (suc i) ≡ Some j) → cond (p i) (Some i) (first_from p n (suc i)) ≡ Some j
+    by (inl s) later = ap (λ b. cond b (Some i) (first_from p n (suc i))) (h i (omega arith) s) ∙ later s
+    by (inr s) later =
+        let same : i ≡ j = omega arith in
+        ap (λ b. cond b (Some i) (first_from p n (suc i))) (ap p same ∙ e) ∙ ap Some same
 
-pub first_found : (f : ℕ → Bool) (n i : ℕ) → 0 < n → f i ≡ true → first_from f n i ≡ Some i
-first_found f n i h e = first_more f n i h ∙ ap (λ b. cond b (Some i) (first_from f (n - 1) (suc i))) e
-
-pub first_next : (f : ℕ → Bool) (n i : ℕ) → 0 < n → f i ≡ false → first_from f n i ≡ first_from f (n - 1) (i + 1)
-first_next f n i h e =
-    first_more f n i h ∙ ap (λ b. cond b (Some i) (first_from f (n - 1) (suc i))) e ∙ ap (first_from f (n - 1)) (sym (add-one i))
+pub first_is : (p : ℕ → Bool) (n : ℕ) (r : Option ℕ)
+    → MatchOption r ((k : ℕ) → 0 ≤ k → k < n → p k ≡ false) (λ i. (0 ≤ i) × (i < n) × (p i ≡ true) × ((k : ℕ) → 0 ≤ k → k < i → p k ≡ false))
+    → r ≡ first_from p n 0
+first_is p n None h = sym (first_after p n 0 (λ j l u. h j l (omega arith)))
+first_is p n (Some i) h = sym (first_at p n 0 i h.0 (omega (arith, h.1)) h.2 h.3)

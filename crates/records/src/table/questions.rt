@@ -103,16 +103,10 @@ impl Table {
     }
 
     // The first cell of client k that is dirty or in the journal.
-    #[tactic(auto, using(crate::proofs::Tables::first_none, crate::proofs::Tables::first_found, crate::proofs::Tables::first_next))]
     fn first_unsent(&self, k: u32) -> Option<u32>
         ensures { result ≡ first_from (unsent_at self.now k) self.now.size 0 }
     {
-        for i in 0..self.size() {
-            if self.unsent(k, i) {
-                return Some(i);
-            }
-        }
-        None
+        (0..self.size()).find(|i| self.unsent(k, *i))
     }
 
     // May client k close: is nothing dirty, and the journal empty?
