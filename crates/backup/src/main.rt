@@ -53,7 +53,7 @@ impl<'a, P: Print, A: Store, B: Store<Cell = A::Cell>> Copying<'a, P, A, B> {
         Ok(n)
     }
 
-    // Gives one side new life; a method, since the checker doesn't follow a pile lent as a field.
+    // Gives one side new life. (Both are methods, since a store that is lent out of a field gets no proof.)
     fn renew_source(&mut self, n: u32) {
         self.from.renew(n);
     }

@@ -17,8 +17,8 @@ pub trait Bank {
     // the stores, from client 1 on
     ghost stores: { Self → List (Stored Self.Cell) };
 
-    // What the stores stand on besides their cells and lives; no operation changes it, which each says: it is
-    // of before and after, so no invariant holds it.
+    // What the stores stand on besides their cells and lives; no operation changes it. (Each operation promises
+    // that, since an invariant speaks of one moment only.)
     ghost Rest: { Type 0 };
 
     ghost rest: { Self → Rest };
@@ -83,8 +83,8 @@ impl<T: Cell> Bank for End<T> {
     fn renew(&mut self, _k: u32, _n: u32) {}
 }
 
-// Client 1 has the first store; client k + 1 is client k of the rest. (Each operation has its own match: one
-// over a closure would ask that the closure may be called.)
+// Client 1 has the first store; client k + 1 is client k of the rest. (Each operation has its own match: a
+// function that took the operation as a closure would have a `requires`.)
 impl<S: Store, R: Bank<Cell = S::Cell>> Bank for (S, R) {
     type Cell = S::Cell;
 

@@ -1,6 +1,6 @@
 // What happens to a cell, and what becomes of a client's record of it.
 ghost use Rattle.std.specs.Prelude.{◌≡◌};
-ghost use Rattle.records.specs.Cells.{sweeps};
+ghost use Rattle.records.specs.Cells.{settled, sweeps};
 ghost use Rattle.records.specs.Events.{reaction, reacted};
 
 use crate::records::CellRecord;
@@ -46,29 +46,20 @@ impl CellRecord {
         self.kept.is_some() && !self.dirty && !in_journal
     }
 
-    // Changes the record as the event says. A read of a cell that is dirty, in the journal, or kept and
-    // checked needs no mark.
+    // Whether the local copy counts as it is: the cell is dirty, in the journal, or kept and checked.
+    fn is_settled(&self, in_journal: bool) -> bool
+        ensures { result ≡ settled self.now in_journal }
+    {
+        self.dirty || in_journal || (self.kept.is_some() && self.checked)
+    }
+
+    // Changes the record as the event says. A read of a cell that is settled needs no mark.
     pub fn react(&mut self, event: Event) -> Reaction
         ensures answer { result ≡ reaction self.old event }
         ensures left { self.new ≡ reacted self.old event }
     {
         match (*self, event) {
-            (CellRecord { dirty: true, .. }, Event::Read { .. }) => Reaction::Local,
-            (
-                _,
-                Event::Read {
-                    in_journal: true,
-                    ..
-                },
-            ) => Reaction::Local,
-            (
-                CellRecord {
-                    kept: Some(_),
-                    checked: true,
-                    ..
-                },
-                Event::Read { .. },
-            ) => Reaction::Local,
+            (r, Event::Read { in_journal, .. }) if r.is_settled(in_journal) => Reaction::Local,
             (_, Event::Read { mark: None, .. }) => Reaction::Ask,
             (CellRecord { kept: Some(m), .. }, Event::Read { mark: Some(s), .. }) if m >= s => {
                 self.checked = true;

@@ -8,20 +8,20 @@ use store::Fault;
 // The first no at the making of a site.
 #[derive(Clone, Copy)]
 pub enum Unfit {
-    DiskSize,
-    MarksSize,
-    ClientCount,
-    LocalSize,
-    MarkUnread,
-    MarkAbove,
+    DiskSize = 1,
+    MarksSize = 2,
+    ClientCount = 3,
+    LocalSize = 4,
+    MarkUnread = 5,
+    MarkAbove = 6,
 }
 
 // Which of a site's stores refused.
 #[derive(Clone, Copy)]
 pub enum StoreName {
-    Local,
-    Marks,
-    Disk,
+    Local = 18,
+    Marks = 19,
+    Disk = 20,
 }
 
 #[derive(Clone, Copy)]
@@ -64,14 +64,7 @@ impl From<Unfit> for u8 {
     ghost from_gives = { λ unfit n. n ≡ unfit_number unfit };
 
     fn from(unfit: Unfit) -> u8 {
-        match unfit {
-            Unfit::DiskSize => 1,
-            Unfit::MarksSize => 2,
-            Unfit::ClientCount => 3,
-            Unfit::LocalSize => 4,
-            Unfit::MarkUnread => 5,
-            Unfit::MarkAbove => 6,
-        }
+        unfit as u8
     }
 }
 
@@ -80,11 +73,7 @@ impl From<StoreName> for u8 {
     ghost from_gives = { λ store n. n ≡ store_number store };
 
     fn from(store: StoreName) -> u8 {
-        match store {
-            StoreName::Local => 18,
-            StoreName::Marks => 19,
-            StoreName::Disk => 20,
-        }
+        store as u8
     }
 }
 

@@ -10,7 +10,7 @@ pub struct CellRecord {
 }
 
 // The plain numbers of a slip, the token that a begun flush gives out: whose flush, of which cell, and at
-// which turn (the how-manieth flush of that client).
+// which turn (the number of the flush among that client's).
 #[derive(Clone, Copy)]
 pub struct Flush {
     pub client: u32,

@@ -5,7 +5,7 @@ use std::marker::Model;
 
 // Why the site is unfit, if it is; how many cells and clients it has; the latest session, and which client
 // holds it, if any; and the clients' records, of which client 1 has the first. Clauses see it as the records that
-// the rules speak of.
+// the rules speak of. (Its size is fixed, by the rules, and never asked of an allocator.)
 #[derive(Drop)]
 pub struct Table {
     unfit: Option<Unfit>,

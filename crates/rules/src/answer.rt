@@ -8,11 +8,11 @@ use records::fault::{SiteFault, StoreFault};
 #[derive(Clone, Copy)]
 pub enum Source {
     // the local copy as it stood
-    Cached,
+    Cached = 1,
     // the local copy, once checked against the server's mark
-    Checked,
+    Checked = 2,
     // the disk
-    Fetched,
+    Fetched = 3,
 }
 
 // The number under which the source is reported.
@@ -20,17 +20,13 @@ impl From<Source> for u8 {
     ghost from_gives = { λ source n. n ≡ source_number source };
 
     fn from(source: Source) -> u8 {
-        match source {
-            Source::Cached => 1,
-            Source::Checked => 2,
-            Source::Fetched => 3,
-        }
+        source as u8
     }
 }
 
 // The answer to a call: 0 or the refusal's number; the cell that it is about; a session, a turn or a count;
-// at an accepted read where its cell came from; a store's fault. It is no `Result`: a row shows plain numbers,
-// and a refusal's place and value stand where those of an accepted call do.
+// at an accepted read where its cell came from; a store's fault. (A row of a run, with the fields that the rules
+// name: what a refusal says of itself is taken apart when the row is filled.)
 #[derive(Clone, Copy, Default)]
 pub struct Answer {
     pub number: u8,

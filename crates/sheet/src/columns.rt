@@ -35,7 +35,7 @@ impl Columns {
     {
         let start = self.before();
         let end = start + usize::from(self.width);
-        // tried with `get_mut`, by `?`, `let else` and `and_then`: what the line is at a refusal gets no proof
+        // by index: with `get_mut` what the line is at a refusal got no proof, by `?`, `let else` or `and_then`
         if end > line.len() {
             return Err(NoRoom);
         }
@@ -48,7 +48,7 @@ impl Columns {
 pub struct NoRoom;
 
 // Puts a text at the end of `out` and blanks before it; or, where it is longer
-// than `out`, leaves that as it is.
+// than `out`, leaves that as it is. (A width in a format would let it push the columns.)
 fn put_right(out: &mut [u8], text: &[u8]) -> Result<(), NoRoom>
     ensures fits { is_ok result ≡ nat_le (length text.now) (length out.old) }
     ensures bytes { out.new ≡ (if is_ok result then right_justified (length out.old) text.now else out.old) }

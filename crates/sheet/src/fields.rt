@@ -16,7 +16,7 @@ pub struct Place {
 }
 
 // A field as it stands in the sheet. A blank field has the place of its first
-// column, and digits have that of the first digit.
+// column, and digits have that of the first digit. (An enum of these two, by the rules.)
 #[derive(Clone, Copy)]
 pub enum Field<'a> {
     Blank(Place),
@@ -27,11 +27,11 @@ pub enum Field<'a> {
 #[derive(Clone, Copy, Debug, PartialEq)]
 pub enum Cause {
     // the line's first line feed is not its byte 32
-    LineEnd,
+    LineEnd = 31,
     // the field is not blanks and then digits
-    NotDigits,
+    NotDigits = 32,
     // the field is above 4,294,967,295
-    TooLarge,
+    TooLarge = 34,
 }
 
 // A refused line: why, and at which field's first column.
@@ -46,11 +46,7 @@ impl From<Cause> for u32 {
     ghost from_gives = { λ cause n. n ≡ refusal_number cause };
 
     fn from(cause: Cause) -> u32 {
-        match cause {
-            Cause::LineEnd => 31,
-            Cause::NotDigits => 32,
-            Cause::TooLarge => 34,
-        }
+        cause as u32
     }
 }
 

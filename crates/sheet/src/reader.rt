@@ -27,7 +27,8 @@ const SECOND: Columns = Columns {
 };
 
 // The reader's place while a line is read. Its end puts the place back to the
-// start of the line, unless the line was accepted.
+// start of the line, unless the line was accepted. (A flag: with an `Option` of the start, the accepted line's end
+// would say what it is not.)
 struct Guard<'a> {
     place: &'a mut usize,
     start: usize,
@@ -116,6 +117,7 @@ fn read_line<'a>(sheet: &'a [u8], place: &mut usize) -> Result<Option<Line<'a>>,
 }
 
 // Digits that are handed out are the sheet's own bytes at their line and column, whatever the sheet.
+#[tactic(auto, using(crate::proofs::Own::hands_out_its_own))]
 pub fn hands_out_its_own()
     ensures { HandsOutItsOwn }
 {}

@@ -1,5 +1,5 @@
 -- The making of a site, question by question.
-use Rattle.std.proofs.Common.{◌≡◌, ℕ, suc, ◌+◌, ◌-◌, ◌<◌, ◌≤◌, min, Bool, true, false, cond, ◌&&◌, eqb, ltb, leb, ◌⊎◌, List, length, Some, None, Ok, Err, Result, sym, refl, ap, ◌∙◌, inl, inr, arith}
+use Rattle.std.proofs.Common.{◌≡◌, ℕ, suc, ◌+◌, ◌-◌, ◌<◌, ◌≤◌, min, Bool, true, false, cond, ◌&&◌, eqb, ltb, leb, ◌⊎◌, List, length, Some, None, Ok, Err, Result, IsErr, sym, refl, ap, ◌∙◌, inl, inr, arith}
 use Rattle.std.proofs.lemmas.Bool.{leb-true, lt-ltb, le-ltb, le-leb, lt-leb, eq-eqb, ne_eqb, and_left, and_right, and_from, and_parts, cases_lt}
 use Rattle.store.specs.Lengths.{all_long}
 use Rattle.store.specs.Stores.{Stored, read_answer, after_read}
@@ -23,8 +23,12 @@ module _ (n i session : ℕ) (ms ms₁ : Stored ℕ) (r : Result ℕ Fault) (h :
       ∙ ap (λ (x : Stored ℕ). look_more (look_from (n - 1) (i + 1) session) session x (read_answer ms i)) (sym left)
       ∙ ap (look_more (look_from (n - 1) (i + 1) session) session ms₁) (sym answer)
 
-  pub look_unread : (x : Fault) → r ≡ Err x → look_from n i session ms ≡ looked (Some MarkUnread) ms₁
-  look_unread x e = look_once ∙ ap (look_more (look_from (n - 1) (i + 1) session) session ms₁) e
+  pub look_unread : IsErr r → look_from n i session ms ≡ looked (Some MarkUnread) ms₁
+  look_unread e = look_once ∙ unread r e
+    where
+      unread : (r : Result ℕ Fault) → IsErr r → look_more (look_from (n - 1) (i + 1) session) session ms₁ r ≡ looked (Some MarkUnread) ms₁
+      unread (Ok x) e = absurd (grind arith)
+      unread (Err x) e = refl
 
   pub look_above : (x : ℕ) → r ≡ Ok x → session < x → look_from n i session ms ≡ looked (Some MarkAbove) ms₁
   look_above x e q =

@@ -11,7 +11,8 @@ use rules::step::Step;
 
 // Runs the same steps with the same cells given on two sites, of whatever makes of stores with one kind of
 // cell. Sites that began with equal client counts, sessions, cells and lives and were handled alike answer
-// alike: in number, place, value, source, cell got and fault, and in the slips that they have noted.
+// alike: in number, place, value, source, cell got and fault, and in the slips that they have noted. (Rows are lent
+// one by one, as a site's own run takes them.)
 #[tactic(auto, using(rules::proofs::Alike::runs_alike), unfolding(crate::specs::Steps::run_does))]
 pub fn run_both<S: Calls, T: Calls<Cell = S::Cell>>(
     one: &mut S,

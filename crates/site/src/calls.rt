@@ -30,7 +30,7 @@ pub trait Calls {
     ghost state: { Self → State Self.Cell };
 
     // What the stores stand on besides their cells and lives, as the lender's memory around them; no call
-    // changes it, which each says: it is of before and after, so no invariant holds it.
+    // changes it. (Each call promises that, since an invariant speaks of one moment only.)
     ghost Rest: { Type 0 };
 
     ghost rest: { Self → Rest };

@@ -4,7 +4,8 @@ use bank::Bank;
 use records::table::Table;
 use store::Store;
 
-// One disk and its caches, over any stores with one kind of cell; the marks are numbers.
+// One disk and its caches, over any stores with one kind of cell; the marks are numbers. (Clauses name what it
+// means by `site_state`: a model of it would have to name its stores' ghost members, which a model cannot yet.)
 #[derive(Drop)]
 pub struct Site<D: Store, M: Store<Cell = u32>, B: Bank<Cell = D::Cell>> {
     disk: D,

@@ -23,7 +23,7 @@ impl Cell for u32 {
     }
 }
 
-// of this one length, since no store has other arrays
+// (Of this length alone: that a sector has 512 bytes is a rule, and no size that a caller chooses.)
 impl Cell for [u8; 512] {
     ghost empty = { blank_bytes 512 };
 

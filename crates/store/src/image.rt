@@ -23,7 +23,7 @@ impl<'a> Image<'a> {
         Image { bytes }
     }
 
-    // by `&self`, so that the bytes are known to be as they were
+    // By `&self`, so that the bytes are known to be as they were.
     fn get(&self, i: usize) -> Result<[u8; 512], Fault>
         ensures { result ≡ read_answer (endless (blocks 512 self.now.bytes.now)) i }
     {
@@ -59,7 +59,7 @@ impl<'a> Store for Image<'a> {
     fn renew(&mut self, _n: u32) {}
 }
 
-// The 512 bytes from byte 512 * i on.
+// The 512 bytes from byte 512 * i on. (By `*` and not `copied`, which would copy them twice.)
 #[tactic(auto, unfolding(crate::specs::Bytes::blocks))]
 fn get_sector(bytes: &[u8], i: usize) -> Result<[u8; 512], Fault>
     ensures { result ≡ read_answer (endless (blocks 512 bytes.now)) i }

@@ -16,9 +16,9 @@ pub enum Life {
 #[derive(Clone, Copy, PartialEq, Eq, Debug)]
 pub enum Fault {
     // the cell is not below the count
-    OutOfRange,
+    OutOfRange = 21,
     // no life is left
-    NoLife,
+    NoLife = 22,
 }
 
 impl From<Fault> for u8 {
@@ -26,10 +26,7 @@ impl From<Fault> for u8 {
     ghost from_gives = { λ fault number. number ≡ fault_number fault };
 
     fn from(fault: Fault) -> u8 {
-        match fault {
-            Fault::OutOfRange => 21,
-            Fault::NoLife => 22,
-        }
+        fault as u8
     }
 }
 

@@ -24,7 +24,7 @@ impl<'a, T> Row<'a, T> {
 }
 
 impl<'a, T: Cell> Row<'a, T> {
-    // by `&self`, so that the slice is known to be as it was
+    // By `&self`, so that the slice is known to be as it was.
     fn get(&self, i: usize) -> Result<T, Fault>
         ensures { result ≡ read_answer (endless self.now.lent.now) i }
     {
@@ -59,7 +59,8 @@ impl<'a, T: Cell> Store for Row<'a, T> {
     fn renew(&mut self, _n: u32) {}
 }
 
-// The cell at i.
+// The cell at i. (A function of the slice, as the one below: the row's methods hand it their slice. By `*` and not
+// `copied`, which would copy a sector twice.)
 fn get_cell<T: Cell>(cells: &[T], i: usize) -> Result<T, Fault>
     ensures { result ≡ read_answer (endless cells.now) i }
 {

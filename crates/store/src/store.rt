@@ -17,8 +17,8 @@ pub trait Store {
     // endless, or the number of operations left
     ghost life: { Self → Life };
 
-    // What the store stands on besides its cells and its life, as the lender's memory around them;
-    // no operation changes it, which each says: it is of before and after, so no invariant holds it.
+    // What the store stands on besides its cells and its life, as the lender's memory around them; no operation
+    // changes it. (Each operation promises that, since an invariant speaks of one moment only.)
     ghost Rest: { Type 0 };
 
     ghost rest: { Self → Rest };

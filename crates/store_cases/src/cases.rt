@@ -67,8 +67,7 @@ pub fn write_fused<S: Store>(s: &mut S, life: u32, i: usize, v: S::Cell) -> Resu
     fuse.write(i, v)
 }
 
-// The same through a window below the fuse: the cells around the window are as they were too. The
-// numbers are those of the layers' constructors, so a struct of them would be a pile once more.
+// The same through a window below the fuse: the cells around the window are as they were too.
 pub fn write_through<S: Store>(
     s: &mut S,
     first: usize,

@@ -1,5 +1,6 @@
 // How the records change, each in its place. A change of a client or a cell that the table has not leaves
-// it as it is.
+// it as it is. (Each finds the client's record for itself: one function that took the change as a closure would
+// have a `requires`.)
 ghost use Rattle.std.specs.Prelude.{◌≡◌};
 ghost use Rattle.records.specs.Records.{with_cell, noted, unchecked, opened, closed, begun, emptied, given_up, restarted};
 

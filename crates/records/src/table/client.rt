@@ -1,10 +1,10 @@
 // A client's record: what it says of a flush, and how it changes, in place. A change of a cell that it has not
-// leaves the cells as they are.
+// leaves the cells as they are. (Cells are told by index, as `get_mut` says nothing of what the cells end as.)
 ghost use Rattle.std.specs.Prelude.{◌≡◌, slice_set};
 ghost use Rattle.records.specs.Records.{new_client, flush_is, with_cells, unchecked_client, begun_client, given_up_client, revived, restarted_client};
 
 use crate::events::Event;
-use crate::records::{CellRecord, ClientRecord};
+use crate::records::{CellRecord, ClientRecord, Flush};
 
 impl ClientRecord {
     // The record of a client on a new site.
@@ -20,11 +20,11 @@ impl ClientRecord {
         }
     }
 
-    // Whether a flush of that cell and turn is in the journal. (The turn is the how-manieth flush it is.)
-    pub(super) fn is_flushing(&self, i: u32, turn: u32) -> bool
-        ensures { result ≡ flush_is self.now i turn }
+    // Whether the cell of that flush is in the journal, at the flush's turn.
+    pub(super) fn is_flushing(&self, flush: Flush) -> bool
+        ensures { result ≡ flush_is self.now flush.cell flush.turn }
     {
-        self.journal == Some(i) && self.turn == turn
+        self.journal == Some(flush.cell) && self.turn == flush.turn
     }
 
     // The record of cell i becomes r.

@@ -101,7 +101,7 @@ impl Table {
         ensures { result ≡ flushing self.now flush.client flush.cell flush.turn }
     {
         self.client(flush.client)
-            .is_some_and(|c| c.is_flushing(flush.cell, flush.turn))
+            .is_some_and(|c| c.is_flushing(flush))
     }
 
     // Whether cell i is in client k's journal.

@@ -9,16 +9,15 @@ use super::*;
 use records::fault::Unfit;
 
 // Questions 5 and 6, mark by mark: the first no.
-#[tactic(auto, using(crate::proofs::Makings::look_none, crate::proofs::Makings::look_unread))]
+#[tactic(auto, using(crate::proofs::Makings::look_none))]
 fn look<M: Store<Cell = u32>>(marks: &mut M, m: usize, session: u32) -> Result<(), Unfit>
     ensures does { looked (result_err result) (stored (M.Store.cells marks.new) (M.Store.life marks.new)) ≡ look_from m 0 session (stored (M.Store.cells marks.old) (M.Store.life marks.old)) }
     ensures kept { M.Store.rest marks.new ≡ M.Store.rest marks.old }
 {
     for i in 0..m {
-        match marks.read(i) {
-            Ok(mark) if mark <= session => {}
-            Ok(_) => return Err(Unfit::MarkAbove),
-            Err(_) => return Err(Unfit::MarkUnread),
+        let mark = marks.read(i).map_err(|_| Unfit::MarkUnread)?;
+        if mark > session {
+            return Err(Unfit::MarkAbove);
         }
     }
     Ok(())

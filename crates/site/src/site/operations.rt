@@ -19,8 +19,8 @@ fn refused(store: StoreName, cell: u32, operation: Operation, fault: Fault) -> S
     })
 }
 
-// The six differ in which store they work, and each says what that makes of the site; a generic one below them
-// would say what the store promises once more.
+// (The six differ in the store that they work and in what that makes of the site. What they share is `refused`;
+// a generic read and write below them would only promise what `Store` does already.)
 impl<D: Store, M: Store<Cell = u32>, B: Bank<Cell = D::Cell>> Site<D, M, B> {
     // Cell i of the disk.
     pub(super) fn disk_read(&mut self, i: u32) -> Result<D::Cell, SiteFault>

@@ -43,6 +43,7 @@ impl<D: Store, M: Store<Cell = u32>, B: Bank<Cell = D::Cell>> Site<D, M, B> {
         ensures does { outcome (site_state D.Store M.Store B.Bank self.new) result ≡ commit_taken D.Cell.Cell.empty (site_state D.Store M.Store B.Bank self.old) k slip.flush }
         ensures kept { site_rests D.Store M.Store B.Bank self.new ≡ site_rests D.Store M.Store B.Bank self.old }
     {
+        // no `map_err`, which would hide that the site changes on the way
         match self.do_commit(slip) {
             Ok(()) => Ok(()),
             Err(Returned { slip, fault }) => {

@@ -36,16 +36,12 @@ impl<D: Store, M: Store<Cell = u32>, B: Bank<Cell = D::Cell>> Site<D, M, B> {
     {
         let mut value = 0;
         for i in 0..m {
-            match self.sweep_cell(k, i) {
-                Ok(forgot) => value += u32::from(forgot),
-                Err(fault) => {
-                    return Err(Stopped {
-                        fault,
-                        place: i,
-                        value,
-                    });
-                }
-            }
+            let forgot = self.sweep_cell(k, i).map_err(move |fault| Stopped {
+                fault,
+                place: i,
+                value,
+            })?;
+            value += u32::from(forgot);
         }
         Ok(value)
     }
