@@ -5,7 +5,7 @@ ghost use Rattle.rules.specs.Sources.{source_number};
 use records::fault::{SiteFault, StoreFault};
 
 // Where a read's cell came from.
-#[derive(Clone, Copy)]
+#[derive(Clone, Copy, PartialEq, Eq, Debug)]
 pub enum Source {
     // the local copy as it stood
     Cached = 1,

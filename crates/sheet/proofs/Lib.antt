@@ -1,3 +1,4 @@
 pub mod Justified
 pub mod Own
 pub mod Numbers
+pub mod Written

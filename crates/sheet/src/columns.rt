@@ -2,8 +2,6 @@
 ghost use Rattle.std.specs.Prelude.{◌≡◌, ◌+◌, ◌-◌, ◌<◌, ◌≤◌, ◌&&◌, length, drop, is_ok, if◌then◌else◌, decimal, nat_le};
 ghost use Rattle.sheet.specs.Columns.{columns_for, columns_of, fits_columns, right_justified, with_columns};
 
-use itoa::Buffer;
-
 // Some columns of a line: the first, counted from 1, and how many.
 #[derive(Clone, Copy)]
 pub(crate) struct Columns {
@@ -47,6 +45,33 @@ impl Columns {
 #[derive(Clone, Copy, Debug)]
 pub struct NoRoom;
 
+// Writes a number's digits to the end of the bytes, the last digit first, and says where they begin. (Counted by
+// hand, since how many digits there are shows on the way; and computed, so that no table of constants is read.)
+fn write_digits(out: &mut [u8; 10], n: u32) -> usize
+    ensures within { result < 10 }
+    ensures digits { drop result out.new ≡ decimal n }
+{
+    let mut i = 10;
+    let mut rest = n;
+    loop {
+        i -= 1;
+        out[i] = b'0' + (rest % 10) as u8;
+        if rest < 10 {
+            return i;
+        }
+        rest /= 10;
+    }
+}
+
+// A number's decimal digits, written into the buffer.
+#[tactic(auto, using(std::proofs::lemmas::List::take_rest))]
+fn digits_of(buffer: &mut [u8; 10], n: u32) -> &[u8]
+    ensures { result.now ≡ decimal n }
+{
+    let start = write_digits(buffer, n);
+    &buffer[start..]
+}
+
 // Puts a text at the end of `out` and blanks before it; or, where it is longer
 // than `out`, leaves that as it is. (A width in a format would let it push the columns.)
 fn put_right(out: &mut [u8], text: &[u8]) -> Result<(), NoRoom>
@@ -66,5 +91,6 @@ pub fn put_number(out: &mut [u8], n: u32) -> Result<(), NoRoom>
     ensures fits { is_ok result ≡ fits_columns (length out.old) n }
     ensures bytes { out.new ≡ (if is_ok result then columns_for (length out.old) n else out.old) }
 {
-    put_right(out, Buffer::new().format(n).as_bytes())
+    let mut buffer = [b'0'; 10];
+    put_right(out, digits_of(&mut buffer, n))
 }

@@ -1,7 +1,7 @@
 // What the table says of a client and a cell. Any numbers may be asked for.
 ghost use Rattle.std.specs.Prelude.{◌≡◌};
 ghost use Rattle.records.specs.Records.{new_records, client_of, cell_of, journal_of, note_of, turn_of, flushing, is_in_journal, unsent_at, names};
-ghost use Rattle.records.specs.Shape.{Stands};
+ghost use Rattle.records.specs.Shape.{FixedSize, Stands};
 ghost use Rattle.std.specs.Option.{option_copied};
 
 use super::Table;
@@ -31,9 +31,10 @@ impl Table {
         self.unfit
     }
 
-    // The number of cells.
+    // The number of cells. (And what holds of every table: it has 8 clients, each with 1,024 records of cells.)
     pub fn size(&self) -> u32
-        ensures { result ≡ self.now.size }
+        ensures size { result ≡ self.now.size }
+        ensures fixed { FixedSize self.now.clients }
     {
         self.size
     }

@@ -11,4 +11,4 @@ returns c =
     first_is is_unsent c.size.result c.find.result
     (first_from_Range _ _ _ _ (λ i. is_unsent i ≡ true) (λ i. is_unsent i ≡ false) c.find.ensures.ran
     (λ x q h. search rules) (λ x q h. (search rules, search rules)))
-    ∙ ap (λ n. first_from is_unsent n 0) c.size.ensures
+    ∙ ap (λ n. first_from is_unsent n 0) c.size.ensures.size
