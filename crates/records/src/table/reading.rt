@@ -1,4 +1,5 @@
-// What the table says of a client and a cell. Any numbers may be asked for.
+// What the table says of a client and a cell. Any numbers may be asked for. (Two numbers and no pair, here and in
+// the calls, since each has a question of its own.)
 ghost use Rattle.std.specs.Prelude.{◌≡◌};
 ghost use Rattle.records.specs.Records.{new_records, client_of, cell_of, journal_of, note_of, turn_of, flushing, is_in_journal, unsent_at, names};
 ghost use Rattle.records.specs.Shape.{FixedSize, Stands};
