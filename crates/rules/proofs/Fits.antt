@@ -29,7 +29,7 @@ record Measured {V : Type 0} (d : Stored V) (ms : Stored ℕ) (ls : List (Stored
   pub marks_same : o.marks.cells ≡ ms.cells
 
 never : {P : Type 0} (u : Unfit) → ◌≡◌ {A = Option Unfit} (Some u) None → P
-never u e = let z : ◌≡◌ {A = ℕ} 0 1 = cc in absurd (omega arith)
+never u e = cc
 
 survey_says : {V : Type 0} (d : Stored V) (ms : Stored ℕ) (ls : List (Stored V)) (n : ℕ) → (surveyed d ms ls n).first ≡ None → Measured d ms ls (surveyed d ms ls n)
 unfolding surveyed

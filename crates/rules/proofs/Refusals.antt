@@ -31,7 +31,7 @@ unless_clear false e r c d = c
 
 -- a clear answer of a call that takes no cell
 none_exact : (t : Records) (k n : ℕ) → Clear n → there t k ≡ true → Exact t k None n
-none_exact t k n c th = clear_exact t k None n c th (λ i e _ _. let z : ◌≡◌ {A = ℕ} 0 1 = cc in omega arith)
+none_exact t k n c th = clear_exact t k None n c th (λ i e _ _. cc)
 
 and_then_ok : {X : Type 0} (r : Result X SiteFault) → and_then r (λ x. Ok x) ≡ r
 and_then_ok (Ok x) = refl
@@ -51,7 +51,7 @@ taken_clear (Some n) = zero_clear
 
 -- a slip that is taken up is the note
 taken_is : (o : Option Flush) (n : Flush) → taken_up o ≡ Ok n → o ≡ Some n
-taken_is None n e = let z : ◌≡◌ {A = ℕ} 0 1 = cc in absurd (omega arith)
+taken_is None n e = cc
 taken_is (Some x) n e = cc
 
 abbrev stop_num : Result ℕ Stopped → ℕ
@@ -179,7 +179,7 @@ module _ {V : Type 0} where
   begin_names : (s : State V) (k i : ℕ) (n : Flush) → (begin_call s k i).answer ≡ Ok n → n.client ≡ k
   begin_names s k i =
       let P : Outcome V Flush → Type 0 = λ o. (n : Flush) → o.answer ≡ Ok n → n.client ≡ k in
-      let bad : (u : State V) (e : SiteFault) → P (outcome u (Err e)) = λ u e n q. let z : ◌≡◌ {A = ℕ} 0 1 = cc in absurd (omega arith) in
+      let bad : (u : State V) (e : SiteFault) → P (outcome u (Err e)) = λ u e n q. cc in
       followed P s (beginning s.table k i) _ (bad s) λ x _.
       let s₁ : State V = (local_read s k i).state in
       followed P s₁ (local_read s k i).answer _ (bad s₁) λ v _.

@@ -33,7 +33,7 @@ changed_measure g f h (x ∷ xs) (suc (suc k)) = ap (λ ys. g x ∷ ys) (changed
 -- an entry that is there, with its measure
 pub entry_there : {X Y : Type 0} (g : X → Y) (xs : List X) (n : ℕ) (y : Y) (k : ℕ) → map g xs ≡ replicate n y → 0 < k → k ≤ n → (x : X) × (asked (λ z. z) xs k ≡ Some x) × (g x ≡ y)
 entry_there g [] zero y k e a b = absurd (omega arith)
-entry_there g [] (suc n) y k e a b = let z : ◌≡◌ {A = ℕ} 0 1 = cc in absurd (omega arith)
+entry_there g [] (suc n) y k e a b = cc
 entry_there g (x ∷ xs) zero y k e a b = absurd (omega arith)
 entry_there g (x ∷ xs) (suc n) y zero e a b = absurd (omega arith)
 entry_there g (x ∷ xs) (suc n) y (suc zero) e a b = (x, refl, cc)
@@ -154,7 +154,7 @@ module _ {V : Type 0} (s : State V) (k : ℕ) where
   note_own n h e = by (asked (λ c. c) s.table.clients k) (h.proper k) (sym (ap joined (asked_mapped (λ c. c.note) s.table.clients k)) ∙ e)
     where
       by : (o : Option ClientRecord) → ProperAt s.table.size k o → joined (mapped (λ (c : ClientRecord). c.note) o) ≡ Some n → n.client ≡ k
-      by None w q = let z : ◌≡◌ {A = ℕ} 0 1 = cc in absurd (omega arith)
+      by None w q = cc
       by (Some c) w q = subst (Own k) q w.0
 
   pub journal_inside : (i : ℕ) → Sound s → journal_of s.table k ≡ Some i → i < s.table.size
@@ -162,7 +162,7 @@ module _ {V : Type 0} (s : State V) (k : ℕ) where
   journal_inside i h e = by (asked (λ c. c) s.table.clients k) (h.proper k) (sym (ap joined (asked_mapped (λ c. c.journal) s.table.clients k)) ∙ e)
     where
       by : (o : Option ClientRecord) → ProperAt s.table.size k o → joined (mapped (λ (c : ClientRecord). c.journal) o) ≡ Some i → i < s.table.size
-      by None w q = let z : ◌≡◌ {A = ℕ} 0 1 = cc in absurd (omega arith)
+      by None w q = cc
       by (Some c) w q = subst (Inside s.table.size) q w.1
 
 pub zero_clear : Clear 0
@@ -230,7 +230,7 @@ abbrev pub Exact : Records → ℕ → Option ℕ → ℕ → Type 0
 Exact t k c n = EightIs t k n × TwelveIs t k c n
 
 pub true_false : {P : Type 0} → ◌≡◌ {A = Bool} true false → P
-true_false e = let z : ◌≡◌ {A = ℕ} 0 1 = cc in absurd (omega arith)
+true_false e = cc
 
 -- a number that is neither, where the client is there and the cell is below the number of cells
 pub clear_exact : (t : Records) (k : ℕ) (c : Option ℕ) (n : ℕ) → Clear n → there t k ≡ true → ((i : ℕ) → c ≡ Some i → names t.holder k ≡ true → t.size ≤ i → ⊥) → Exact t k c n
@@ -308,7 +308,7 @@ module _ {V : Type 0} where
   whole s k c (Ok x) f h q go = by (there s.table k) refl
     where
       past : (c : Option ℕ) → TwelveIs s.table k c 0 → there s.table k ≡ true → (i : ℕ) → c ≡ Some i → names s.table.holder k ≡ true → s.table.size ≤ i → ⊥
-      past None w th i e a l = let z : ◌≡◌ {A = ℕ} 0 1 = cc in omega arith
+      past None w th i e a l = cc
       past (Some j) w th i e a l = let e' : j ≡ i = cc in let z = w.1 th a (omega arith) in omega arith
 
       by : (b : Bool) → there s.table k ≡ b → Sound (f s x).state × Exact s.table k c (num (f s x).answer)

@@ -223,7 +223,7 @@ unfolding cell_of
 cell_known t c i r e = by (client_of t c) (sym (ap joined (asked_mapped (λ x. slice_get x.cells i) t.clients c)) ∙ e)
   where
     by : (o : Option ClientRecord) → joined (mapped (λ (x : ClientRecord). slice_get x.cells i) o) ≡ Some r → (get_or (cells_in o) i new_cell ≡ r) × (i < length (cells_in o))
-    by None q = let z : ◌≡◌ {A = ℕ} 0 1 = cc in absurd (omega arith)
+    by None q = cc
     by (Some x) q = nth_found x.cells i r new_cell q
 
 pub flush_known : (t : Records) (c i n : ℕ) → flushing t c i n ≡ true → names (journal_in (client_of t c)) i ≡ true
@@ -231,5 +231,5 @@ unfolding flushing
 flush_known t c i n e = by (client_of t c) (sym (ap (λ o. unwrap_or o false) (asked_mapped (λ x. flush_is x i n) t.clients c)) ∙ e)
   where
     by : (o : Option ClientRecord) → unwrap_or (mapped (λ (x : ClientRecord). flush_is x i n) o) false ≡ true → names (journal_in o) i ≡ true
-    by None q = let z : ◌≡◌ {A = ℕ} 0 1 = cc in absurd (omega arith)
+    by None q = cc
     by (Some x) q = (and_parts _ _ q).0

@@ -26,14 +26,14 @@ look_says zero i n ms = ((λ _ k a z. omega arith), refl)
 look_says (suc f) i n ms =
     let P : Looked → Type 0 = λ o. (o.first ≡ None → (k : ℕ) → i ≤ k → k < i + suc f → get_or ms.cells k 0 ≤ n) × (o.marks.cells ≡ ms.cells) in
     store_read (λ b r. P (look_more (look_from f (i + 1) n) n b r)) ms i 0
-    (λ e. ((λ q. let z : ◌≡◌ {A = ℕ} 0 1 = cc in absurd (omega arith)), refl))
+    (λ e. ((λ q. cc), refl))
     λ _ l.
     chosen P (leb (get_or ms.cells i 0) n) _ _
     (λ y.
     let r = look_says f (i + 1) n (stored ms.cells l) in
     let x : get_or ms.cells i 0 ≤ n = leb-true _ _ y in
     ((λ e k a z. equal_or_not (get_or ms.cells k 0 ≤ n) k i (λ q. rw q x) (λ q. r.0 e k (omega arith) (omega arith))), r.1))
-    (λ _. ((λ q. let z : ◌≡◌ {A = ℕ} 0 1 = cc in absurd (omega arith)), refl))
+    (λ _. ((λ q. cc), refl))
 
 new_keeps : {V : Type 0} (n x : ℕ) (d l j : V) → Keeps false false n x d d sent l j None false false false
 new_keeps n x d l j = grind arith
@@ -65,14 +65,14 @@ site_inv blank d ms ls n o h =
     record {
       serves = λ k z. record { same = λ _. refl; idle = λ _. refl; marked = h k z };
       keeps = λ k c z. let e = new_cell_is c k in rw (e.0, e.1) (new_keeps n _ _ _ _);
-      filed = λ c k e. let z = new_cell_is c k in let y : ◌≡◌ {A = Bool} false true = sym (ap (λ (j : Option ℕ). names j k) z.1) ∙ e in let q : ◌≡◌ {A = ℕ} 0 1 = cc in absurd (omega arith);
+      filed = λ c k e. let z = new_cell_is c k in let y : ◌≡◌ {A = Bool} false true = sym (ap (λ (j : Option ℕ). names j k) z.1) ∙ e in cc;
     }
 
 abbrev Starts : {V : Type 0} → V → Stored V → List (Stored V) → ℕ → Looked → Type 0
 Starts blank d ls n o = o.first ≡ None → Inv blank (length d.cells) (view (new_site d ls n o)) (image_book blank d)
 
 never_starts : {V : Type 0} (blank : V) (d : Stored V) (ms : Stored ℕ) (ls : List (Stored V)) (n : ℕ) (u : Unfit) → Starts blank d ls n (looked (Some u) ms)
-never_starts blank d ms ls n u e = let z : ◌≡◌ {A = ℕ} 0 1 = cc in absurd (omega arith)
+never_starts blank d ms ls n u e = cc
 
 looked_starts : {V : Type 0} (blank : V) (d : Stored V) (ms : Stored ℕ) (ls : List (Stored V)) (n : ℕ) → Starts blank d ls n (look_from (length d.cells) 0 n ms)
 looked_starts blank d ms ls n e =

@@ -174,7 +174,7 @@ module _ {V : Type 0} (blank : V) where
   emptied_client b (Some x) = refl
 
   no_journal : (m : ℕ) (l : Stored V) (xs : List CellRecord) → Filed blank m (record { local = l; cells = xs; journal = None })
-  no_journal m l xs k e = let z : ◌≡◌ {A = ℕ} 0 1 = cc in absurd (omega arith)
+  no_journal m l xs k e = cc
 
   pub commit_fine : (s : State V) (b : Book V) (c k t : ℕ) → Kept s b → Fine s.table.size b (sends k) (replied (plain_reply k) (commit_call blank s c k t))
   commit_fine s b c k t i =

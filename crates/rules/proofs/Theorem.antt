@@ -58,8 +58,8 @@ module _ {V : Type 0} (blank : V) where
 
   reads_right : (m : ℕ) (s : State V) (b : Book V) → Kept m s b → (qs : List (Call V)) (before : List (Entry V)) (e : Entry V) (rest : List (Entry V))
       → calls_log (called blank) s qs ≡ before ++ (e ∷ rest) → ReadRight (book_of b before) (deed e.call e.reply.answer) e.reply
-  reads_right m s b i [] [] e rest q = let z : ◌≡◌ {A = ℕ} 0 1 = cc in absurd (omega arith)
-  reads_right m s b i [] (x ∷ before) e rest q = let z : ◌≡◌ {A = ℕ} 0 1 = cc in absurd (omega arith)
+  reads_right m s b i [] [] e rest q = cc
+  reads_right m s b i [] (x ∷ before) e rest q = cc
   reads_right m s b i (q ∷ qs) [] e rest z =
       let w : logged q (called blank s q).reply ≡ e = cc in
       subst (λ (x : Entry V). ReadRight b (deed x.call x.reply.answer) x.reply) w (fine_at m s b q i).right
@@ -151,8 +151,8 @@ upholds V blank x fit acts =
 -- stores with the same cells and lives are the same
 same_stores : {V : Type 0} (xs ys : List (Stored V)) → map (λ b. b.cells) xs ≡ map (λ b. b.cells) ys → map (λ b. b.life) xs ≡ map (λ b. b.life) ys → xs ≡ ys
 same_stores [] [] e f = refl
-same_stores [] (y ∷ ys) e f = let z : ◌≡◌ {A = ℕ} 0 1 = cc in absurd (omega arith)
-same_stores (x ∷ xs) [] e f = let z : ◌≡◌ {A = ℕ} 0 1 = cc in absurd (omega arith)
+same_stores [] (y ∷ ys) e f = cc
+same_stores (x ∷ xs) [] e f = cc
 same_stores {V} (x ∷ xs) (y ∷ ys) e f =
     let c : x.cells ≡ y.cells = cc in
     let l : x.life ≡ y.life = cc in

@@ -27,7 +27,7 @@ chosen P true x y f g = f refl
 chosen P false x y f g = g refl
 
 pub nth_found : {V : Type 0} (xs : List V) (i : ℕ) (v d : V) → slice_get xs i ≡ Some v → (get_or xs i d ≡ v) × (i < length xs)
-nth_found [] i v d e = let z : ◌≡◌ {A = ℕ} 0 1 = cc in absurd (omega arith)
+nth_found [] i v d e = cc
 nth_found (x ∷ xs) zero v d e = (cc, omega arith)
 nth_found (x ∷ xs) (suc i) v d e = let h = nth_found xs i v d e in (h.0, omega arith)
 
@@ -52,7 +52,7 @@ inside_found b i x e = go (ltb i (length b.cells)) refl e
   where
     go : (t : Bool) → ltb i (length b.cells) ≡ t → cond t (Some tt) None ≡ Some x → i < length b.cells
     go true h q = ltb-true _ _ h
-    go false h q = let z : ◌≡◌ {A = ℕ} 0 1 = cc in absurd (omega arith)
+    go false h q = cc
 
 pub store_write : {V : Type 0} (P : Stored V → Result (Unit {0}) Fault → Type 0) (b : Stored V) (i : ℕ) (v : V)
     → ((e : Fault) → P b (Err e)) → (i < length b.cells → (l : Life) → P (stored (set b.cells i v) l) (Ok tt)) → P (after_write b i v) (write_answer b i)
@@ -113,14 +113,14 @@ nobody_else h c c' e n = grind arith
 -- what an accepted question says
 pub went_on : {X Y : Type 0} (r : Result X SiteFault) (f : X → Result Y SiteFault) (y : Y) → and_then r f ≡ Ok y → (x : X) × (r ≡ Ok x) × (f x ≡ Ok y)
 went_on (Ok x) f y e = (x, refl, e)
-went_on (Err q) f y e = let z : ◌≡◌ {A = ℕ} 0 1 = cc in absurd (omega arith)
+went_on (Err q) f y e = cc
 
 pub was_yes : {X : Type 0} (b : Bool) (q : SiteFault) (r : Result X SiteFault) (x : X) → unless b q r ≡ Ok x → (b ≡ true) × (r ≡ Ok x)
 was_yes true q r x e = (refl, e)
-was_yes false q r x e = let z : ◌≡◌ {A = ℕ} 0 1 = cc in absurd (omega arith)
+was_yes false q r x e = cc
 
 pub was_found : (o : Option CellRecord) (r : CellRecord) → found o ≡ Ok r → o ≡ Some r
-was_found None r e = let z : ◌≡◌ {A = ℕ} 0 1 = cc in absurd (omega arith)
+was_found None r e = cc
 was_found (Some x) r e = cc
 
 pub ok_same : {X : Type 0} (x y : X) → ◌≡◌ {A = Result X SiteFault} (Ok x) (Ok y) → x ≡ y
@@ -159,7 +159,7 @@ committing_says t k i n x e =
 
 was_none : (o : Option ℕ) (x : Unit {0}) → all_sent o ≡ Ok x → o ≡ None
 was_none None x e = refl
-was_none (Some i) x e = let z : ◌≡◌ {A = ℕ} 0 1 = cc in absurd (omega arith)
+was_none (Some i) x e = cc
 
 -- nothing was found among the numbers looked at
 none_found : (p : ℕ → Bool) (n i : ℕ) → first_from p n i ≡ None → (k : ℕ) → i ≤ k → k < i + n → p k ≡ false
@@ -169,7 +169,7 @@ none_found p (suc n) i e k a z = go (p i) refl e (λ r a' z'. none_found p n (su
   where
     go : (t : Bool) → p i ≡ t → cond t (Some i) (first_from p n (suc i)) ≡ None
         → (first_from p n (suc i) ≡ None → suc i ≤ k → k < suc i + n → p k ≡ false) → p k ≡ false
-    go true q e more = let z : ◌≡◌ {A = ℕ} 0 1 = cc in absurd (omega arith)
+    go true q e more = cc
     go false q e more = equal_or_not (p k ≡ false) k i (λ r. cc) (λ r. more e (omega arith) (omega arith))
 
 pub closing_says : (t : Records) (k : ℕ) (x : Unit {0}) → closing t k ≡ Ok x → (names t.holder k ≡ true) × ((i : ℕ) → i < t.size → unsent_at t k i ≡ false)
