@@ -1,13 +1,14 @@
 -- Each call leaves a sound site, and answers 8 and 12 only by their own questions.
 use Rattle.std.proofs.Common.{◌≡◌, ℕ, zero, suc, ◌+◌, Bool, true, false, cond, eqb, ltb, ◌↔◌, List, map, length, get_or, set, Some, None, Ok, Err, Option, Result, sym, refl, ap, ◌∙◌, subst, arith}
+use Rattle.std.specs.Option.{is_none, ok_or}
 use Rattle.std.proofs.lemmas.List.{length-set, length-map}
 use Rattle.std.proofs.lemmas.Bool.{eqb-false, eq-eqb, lt-ltb, le-leb}
 use Rattle.store.specs.Stores.{after_renew}
 use Rattle.records.specs.Clients.{changed}
 use Rattle.records.specs.Faults.{says}
 use Rattle.records.specs.Cells.{new_cell, settled, fresh, sweeps, swept_cell, unchecked_cell, dirtied}
-use Rattle.records.specs.Records.{Records, top, is_none, cell_of, journal_of, note_of, turn_of, flushing, unsent_at, is_in_journal, with_cells, with_cell, with_journal, with_note, unchecked_client, begun_client, soiled, soiled_at, given_up_client, restarted_client}
-use Rattle.records.specs.Questions.{and_then, unless, there, present, holding, admitted, opening, beginning, committing, giving_up, closing, all_sent, first_from, taken_up, taken_place, taking_to_commit, taking_to_give_up}
+use Rattle.records.specs.Records.{Records, top, cell_of, journal_of, note_of, turn_of, flushing, unsent_at, is_in_journal, with_cells, with_cell, with_journal, with_note, unchecked_client, begun_client, soiled, soiled_at, given_up_client, restarted_client}
+use Rattle.records.specs.Questions.{and_then, unless, there, present, holding, admitted, opening, beginning, committing, giving_up, closing, all_sent, first_from, taken_place, taking_to_commit, taking_to_give_up}
 use Rattle.records.specs.Questions as questions
 use Rattle.rules.specs.Site.{State, Outcome, outcome, next, with_table, with_disk, with_locals, disk_read, disk_write, mark_read, mark_write, local_read, local_write}
 use Rattle.rules.specs.Calls.{open_call, read_local, read_confirmed, read_fetched, read_call, write_call, begin_call, commit_call, give_up_call, close_call, sweep_record, sweep_cell, Sweeping, sweep_more, sweep_from, sweep_admitted, invalidate_call, restart_client_call, restart_server_call, with_note_of, begin_step, returned, commit_taken, commit_step, give_up_step}
@@ -19,7 +20,7 @@ use Rattle.records.specs.declared.records.CellRecord.{CellRecord}
 use Rattle.records.specs.declared.records.Flush.{Flush}
 use Rattle.records.specs.declared.fault.SiteFault.{SiteFault}
 use Rattle.records.specs.declared.fault.SiteFault.TheVariants as fault
-use Rattle.rules.proofs.Ways.{followed, chosen, went_on, beginning_says}
+use Rattle.rules.proofs.Ways.{followed, chosen, went_on, was_there, beginning_says}
 use Rattle.rules.proofs.Shapes.{Sound, Own, note_own, num, Clear, zero_clear, Safe, safe_then, EightIs, Exact, true_false, there_says, clear_exact, question, held, celled, whole, with_disk_sound, with_marks_sound, with_locals_sound, with_client_sound, disk_read_safe, disk_write_safe, mark_read_safe, mark_write_safe, local_read_safe, local_write_safe}
 
 clear_lit : (n : ℕ) → eqb n 8 ≡ false → eqb n 12 ≡ false → Clear n
@@ -45,14 +46,9 @@ soiled_long : (xs : List CellRecord) (j : Option ℕ) → length (map unchecked_
 soiled_long xs None = length-map xs unchecked_cell
 soiled_long xs (Some j) = length-map (soiled_at xs j) unchecked_cell ∙ length-set xs j (dirtied true (get_or xs j new_cell))
 
-taken_clear : (o : Option Flush) → Clear (num (taken_up o))
+taken_clear : (o : Option Flush) → Clear (num (ok_or o fault.NoFlush))
 taken_clear None = clear_lit 16 refl refl
 taken_clear (Some n) = zero_clear
-
--- a slip that is taken up is the note
-taken_is : (o : Option Flush) (n : Flush) → taken_up o ≡ Ok n → o ≡ Some n
-taken_is None n e = cc
-taken_is (Some x) n e = cc
 
 abbrev stop_num : Result ℕ Stopped → ℕ
 stop_num (Ok n) = 0
@@ -287,7 +283,7 @@ module _ {V : Type 0} where
       (whole s k None (taking_to_commit s.table k) _ h
       (held s.table k None _ h.fit (λ th _. none_exact s.table k _ (taken_clear (note_of s.table k)) th))
       λ n e th.
-      let own : n.client ≡ k = note_own s k n h (taken_is (note_of s.table k) n (went_on (holding s.table k) _ n e).2) in
+      let own : n.client ≡ k = note_own s k n h (was_there (note_of s.table k) _ n (went_on (holding s.table k) _ n e).2) in
       let s₁ : State V = with_note_of s k None in
       let th₁ : there s.table n.client ≡ true = rw own th in
       by n own (commit_call blank s₁ n.client n.cell n.turn).answer (exact_safe s₁ n.client (commit_call blank s₁ n.client n.cell n.turn) th₁ (commit_exact blank s₁ n.client n.cell n.turn (with_note_sound s k None tt h))))

@@ -1,14 +1,15 @@
 -- A fit site's parts go on fitting together, so that 8 and 12 are answered only by their own questions.
 use Rattle.std.proofs.Common.{◌≡◌, ℕ, zero, suc, ◌+◌, ◌<◌, ◌≤◌, Bool, true, false, ltb, ◌↔◌, List, [], ◌∷◌, map, length, set, replicate, Some, None, Ok, Err, Option, Result, sym, refl, ap, ◌∙◌, subst, arith}
 use Rattle.std.specs.List.{slice_get}
+use Rattle.std.specs.Option.{is_none, ok_or, option_flatten}
 use Rattle.std.proofs.lemmas.List.{length-set}
 use Rattle.std.proofs.lemmas.Bool.{ltb-true, ltb-false, leb-true, and_parts}
 use Rattle.store.specs.Stores.{Stored, after, read_answer, write_answer, after_read, after_write}
 use Rattle.store.specs.declared.life.Fault.{Fault}
 use Rattle.records.specs.Clients.{asked, changed}
 use Rattle.records.specs.Faults.{says}
-use Rattle.records.specs.Records.{Records, names, is_none, joined, cell_of, journal_of, note_of}
-use Rattle.records.specs.Questions.{and_then, unless, asks, there, present, holding, found, admitted}
+use Rattle.records.specs.Records.{Records, names, cell_of, journal_of, note_of}
+use Rattle.records.specs.Questions.{and_then, unless, asks, there, present, holding, admitted}
 use Rattle.rules.specs.Site.{State, Outcome, next, ◌then◌, with_table, with_disk, with_marks, with_locals, told, told_local, disk_read, disk_write, mark_read, mark_write, local_read, local_write}
 use Rattle.records.specs.declared.records.CellRecord.{CellRecord}
 use Rattle.records.specs.declared.records.ClientRecord.{ClientRecord}
@@ -151,17 +152,17 @@ module _ {V : Type 0} (s : State V) (k : ℕ) where
   -- what a proper record says of the note and the journal
   pub note_own : (n : Flush) → Sound s → note_of s.table k ≡ Some n → n.client ≡ k
   unfolding note_of
-  note_own n h e = by (asked (λ c. c) s.table.clients k) (h.proper k) (sym (ap joined (asked_mapped (λ c. c.note) s.table.clients k)) ∙ e)
+  note_own n h e = by (asked (λ c. c) s.table.clients k) (h.proper k) (sym (ap option_flatten (asked_mapped (λ c. c.note) s.table.clients k)) ∙ e)
     where
-      by : (o : Option ClientRecord) → ProperAt s.table.size k o → joined (mapped (λ (c : ClientRecord). c.note) o) ≡ Some n → n.client ≡ k
+      by : (o : Option ClientRecord) → ProperAt s.table.size k o → option_flatten (mapped (λ (c : ClientRecord). c.note) o) ≡ Some n → n.client ≡ k
       by None w q = cc
       by (Some c) w q = subst (Own k) q w.0
 
   pub journal_inside : (i : ℕ) → Sound s → journal_of s.table k ≡ Some i → i < s.table.size
   unfolding journal_of
-  journal_inside i h e = by (asked (λ c. c) s.table.clients k) (h.proper k) (sym (ap joined (asked_mapped (λ c. c.journal) s.table.clients k)) ∙ e)
+  journal_inside i h e = by (asked (λ c. c) s.table.clients k) (h.proper k) (sym (ap option_flatten (asked_mapped (λ c. c.journal) s.table.clients k)) ∙ e)
     where
-      by : (o : Option ClientRecord) → ProperAt s.table.size k o → joined (mapped (λ (c : ClientRecord). c.journal) o) ≡ Some i → i < s.table.size
+      by : (o : Option ClientRecord) → ProperAt s.table.size k o → option_flatten (mapped (λ (c : ClientRecord). c.journal) o) ≡ Some i → i < s.table.size
       by None w q = cc
       by (Some c) w q = subst (Inside s.table.size) q w.1
 
@@ -276,10 +277,10 @@ module _ {V : Type 0} where
       let c = entry_there records_count s.table.clients 8 1024 k h.records z.0 (omega arith) in
       let q = c.2 in
       let r = nth_there c.0.cells i (omega arith) in
-      (r.0, ap joined (asked_mapped (λ x. slice_get x.cells i) s.table.clients k ∙ ap (mapped (λ (x : ClientRecord). slice_get x.cells i)) c.1) ∙ r.1)
+      (r.0, ap option_flatten (asked_mapped (λ x. slice_get x.cells i) s.table.clients k ∙ ap (mapped (λ (x : ClientRecord). slice_get x.cells i)) c.1) ∙ r.1)
 
   abbrev cell_asks : State V → ℕ → ℕ → Bool → Result CellRecord SiteFault
-  cell_asks s k i b = unless b fault.NoCell (found (cell_of s.table k i))
+  cell_asks s k i b = unless b fault.NoCell (ok_or (cell_of s.table k i) fault.NoCell)
 
   -- questions 7, 8, 11 and 12, and then g of the cell's record
   pub celled : {Y : Type 0} (s : State V) (k i : ℕ) (g : CellRecord → Result Y SiteFault) → Sound s → ((r : CellRecord) → Clear (num (g r)))
@@ -296,7 +297,7 @@ module _ {V : Type 0} where
       by true e th =
           let l : i < s.table.size = ltb-true _ _ e in
           let r = record_there s k i h th l in
-          subst (λ (o : Option CellRecord). Exact s.table k (Some i) (num (and_then (found o) g))) (sym r.1)
+          subst (λ (o : Option CellRecord). Exact s.table k (Some i) (num (and_then (ok_or o fault.NoCell) g))) (sym r.1)
           (clear_exact s.table k (Some i) _ (cl r.0) th (λ j q _ y. let q' : i ≡ j = cc in omega arith))
       by false e th =
           (((λ z. absurd (omega arith)), λ z. true_false (sym th ∙ z)), ((λ _. ltb-false _ _ e), λ _ _ _. refl))

@@ -1,12 +1,13 @@
 -- What the invariant looks at: each client's store, cells and journal, by client number.
-use Rattle.std.proofs.Common.{◌≡◌, ℕ, zero, suc, ◌<◌, true, false, List, [], ◌∷◌, length, get_or, set, Some, None, Err, Option, Result, unwrap_or, sym, refl, ap, ◌∙◌, subst, arith}
+use Rattle.std.proofs.Common.{◌≡◌, ℕ, zero, suc, ◌<◌, true, false, List, [], ◌∷◌, length, get_or, set, Some, None, Err, Option, Result, unwrap_or, sym, refl, ap, ◌∙◌, subst}
 use Rattle.std.specs.List.{slice_get}
+use Rattle.std.specs.Option.{option_flatten}
 use Rattle.store.specs.declared.life.Life.{Life}
 use Rattle.store.specs.Stores.{Stored, endless, stored, read_answer, write_answer, after_read, after_write}
 use Rattle.store.specs.declared.life.Fault.{Fault}
 use Rattle.records.specs.Clients.{asked, changed}
 use Rattle.records.specs.Cells.{new_cell}
-use Rattle.records.specs.Records.{Records, names, joined, cell_of, journal_of, record_of, flushing, flush_is, with_clients}
+use Rattle.records.specs.Records.{Records, names, cell_of, journal_of, record_of, flushing, flush_is, with_clients}
 use Rattle.rules.specs.Site.{State, Outcome, outcome, next, ◌then◌, with_locals, with_table, told, told_local, local_read, local_write}
 use Rattle.rules.specs.Book.{put}
 use Rattle.records.specs.declared.records.CellRecord.{CellRecord}
@@ -199,9 +200,9 @@ module _ {V Y : Type 0} (P : Outcome V Y → Type 0) (s : State V) (c : ℕ) whe
 -- what the table's answers say of a client
 pub journal_is : (t : Records) (c : ℕ) → journal_of t c ≡ journal_in (client_of t c)
 unfolding journal_of
-journal_is t c = ap joined (asked_mapped (λ x. x.journal) t.clients c) ∙ by (client_of t c)
+journal_is t c = ap option_flatten (asked_mapped (λ x. x.journal) t.clients c) ∙ by (client_of t c)
   where
-    by : (o : Option ClientRecord) → joined (mapped (λ (x : ClientRecord). x.journal) o) ≡ journal_in o
+    by : (o : Option ClientRecord) → option_flatten (mapped (λ (x : ClientRecord). x.journal) o) ≡ journal_in o
     by None = refl
     by (Some x) = refl
 
@@ -212,17 +213,17 @@ nth_or (x ∷ xs) (suc i) = nth_or xs i
 
 pub record_is : (t : Records) (c i : ℕ) → record_of t c i ≡ get_or (cells_in (client_of t c)) i new_cell
 unfolding cell_of
-record_is t c i = ap (λ o. unwrap_or (joined o) new_cell) (asked_mapped (λ x. slice_get x.cells i) t.clients c) ∙ by (client_of t c)
+record_is t c i = ap (λ o. unwrap_or (option_flatten o) new_cell) (asked_mapped (λ x. slice_get x.cells i) t.clients c) ∙ by (client_of t c)
   where
-    by : (o : Option ClientRecord) → unwrap_or (joined (mapped (λ (x : ClientRecord). slice_get x.cells i) o)) new_cell ≡ get_or (cells_in o) i new_cell
+    by : (o : Option ClientRecord) → unwrap_or (option_flatten (mapped (λ (x : ClientRecord). slice_get x.cells i) o)) new_cell ≡ get_or (cells_in o) i new_cell
     by None = refl
     by (Some x) = nth_or x.cells i
 
 pub cell_known : (t : Records) (c i : ℕ) (r : CellRecord) → cell_of t c i ≡ Some r → (get_or (cells_in (client_of t c)) i new_cell ≡ r) × (i < length (cells_in (client_of t c)))
 unfolding cell_of
-cell_known t c i r e = by (client_of t c) (sym (ap joined (asked_mapped (λ x. slice_get x.cells i) t.clients c)) ∙ e)
+cell_known t c i r e = by (client_of t c) (sym (ap option_flatten (asked_mapped (λ x. slice_get x.cells i) t.clients c)) ∙ e)
   where
-    by : (o : Option ClientRecord) → joined (mapped (λ (x : ClientRecord). slice_get x.cells i) o) ≡ Some r → (get_or (cells_in o) i new_cell ≡ r) × (i < length (cells_in o))
+    by : (o : Option ClientRecord) → option_flatten (mapped (λ (x : ClientRecord). slice_get x.cells i) o) ≡ Some r → (get_or (cells_in o) i new_cell ≡ r) × (i < length (cells_in o))
     by None q = cc
     by (Some x) q = nth_found x.cells i r new_cell q
 

@@ -1,5 +1,6 @@
 -- Each call keeps the invariant, with the book fed, and an accepted read gives the last write.
 use Rattle.std.proofs.Common.{◌≡◌, ℕ, zero, suc, ◌+◌, ◌<◌, Bool, true, false, cond, ◌||◌, eqb, List, [], ◌∷◌, map, length, get_or, set, Some, None, Ok, Err, Option, Result, sym, refl, ap, ◌∙◌, subst, add-one, arith}
+use Rattle.std.specs.Option.{is_none}
 use Rattle.std.proofs.lemmas.List.{get_or-set_same, get_or-set_other, length-set, length-map}
 use Rattle.std.proofs.lemmas.Bool.{eqb-true, eq-eqb, ne_eqb, and_parts, or_parts, not-true}
 use Rattle.store.specs.declared.life.Life.{Life}
@@ -7,7 +8,7 @@ use Rattle.store.specs.Stores.{Stored, stored, after_renew}
 use Rattle.records.specs.Clients as clients
 use Rattle.records.specs.Faults.{says, store_number}
 use Rattle.records.specs.Cells.{new_cell, unchecked_cell, dirtied, fresh, settled, marked, written_cell, swept_cell, sweeps}
-use Rattle.records.specs.Records.{names, is_none, cell_of, is_in_journal, unsent_at, with_cell}
+use Rattle.records.specs.Records.{names, cell_of, is_in_journal, unsent_at, with_cell}
 use Rattle.records.specs.Questions.{admitted, opening, beginning, committing, closing}
 use Rattle.rules.specs.Site.{State, Outcome, outcome, with_table, with_disk, with_marks, with_locals}
 use Rattle.rules.specs.Calls.{open_call, read_local, read_confirmed, read_fetched, read_call, write_call, begin_call, commit_call, give_up_call, close_call, sweep_cell, sweep_from, sweep_more, sweep_record, Sweeping, sweep_admitted, invalidate_call, restart_client_call, restart_server_call, with_note_of, begin_step, returned, commit_taken, commit_step, give_up_step}

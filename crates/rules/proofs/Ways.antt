@@ -1,14 +1,15 @@
 -- How a proof follows a call: at each question, at each store operation, and at each table entry.
 use Rattle.std.proofs.Common.{◌≡◌, ℕ, zero, suc, ◌+◌, ◌<◌, ◌≤◌, Bool, true, false, cond, eqb, ltb, ◌⊎◌, List, [], ◌∷◌, length, get_or, set, is_some, Some, None, Ok, Err, Option, Result, sym, refl, ap, ◌∙◌, subst, inl, inr, arith}
 use Rattle.std.specs.List.{slice_get}
+use Rattle.std.specs.Option.{is_none, ok_or}
 use Rattle.std.proofs.lemmas.Bool.{ltb-true, eqb-true, eqb-false, cases_eq}
 use Rattle.std.proofs.lemmas.List.{get_or-set_same, get_or-set_other}
 use Rattle.store.specs.declared.life.Life.{Life}
 use Rattle.store.specs.Stores.{Stored, stored, granted, alive, spent, within, after, read_answer, write_answer, after_read, after_write}
 use Rattle.store.specs.declared.life.Fault.{Fault}
 use Rattle.store.specs.declared.life.Fault.TheVariants.{OutOfRange, NoLife}
-use Rattle.records.specs.Records.{Records, names, is_none, cell_of, journal_of, flushing, unsent_at}
-use Rattle.records.specs.Questions.{and_then, unless, found, present, holding, admitted, opening, beginning, committing, closing, first_from, all_sent}
+use Rattle.records.specs.Records.{Records, names, cell_of, journal_of, flushing, unsent_at}
+use Rattle.records.specs.Questions.{and_then, unless, present, holding, admitted, opening, beginning, committing, closing, first_from, all_sent}
 use Rattle.rules.specs.Site.{State, Outcome, outcome, next, ◌then◌, with_disk, with_marks, told, disk_read, disk_write, mark_read, mark_write}
 use Rattle.rules.specs.Book.{put}
 use Rattle.records.specs.declared.records.CellRecord.{CellRecord}
@@ -119,9 +120,9 @@ pub was_yes : {X : Type 0} (b : Bool) (q : SiteFault) (r : Result X SiteFault) (
 was_yes true q r x e = (refl, e)
 was_yes false q r x e = cc
 
-pub was_found : (o : Option CellRecord) (r : CellRecord) → found o ≡ Ok r → o ≡ Some r
-was_found None r e = cc
-was_found (Some x) r e = cc
+pub was_there : {X : Type 0} (o : Option X) (q : SiteFault) (x : X) → ok_or o q ≡ Ok x → o ≡ Some x
+was_there None q x e = cc
+was_there (Some y) q x e = cc
 
 pub ok_same : {X : Type 0} (x y : X) → ◌≡◌ {A = Result X SiteFault} (Ok x) (Ok y) → x ≡ y
 ok_same x y e = cc
@@ -133,7 +134,7 @@ pub admitted_says : (t : Records) (k i : ℕ) (r : CellRecord) → admitted t k 
 admitted_says t k i r e =
     let h = went_on (holding t k) _ r e in
     let w = was_yes _ _ _ _ h.2 in
-    (holding_says t k h.0 h.1, ltb-true _ _ w.0, was_found _ r w.1)
+    (holding_says t k h.0 h.1, ltb-true _ _ w.0, was_there _ _ r w.1)
 
 pub opening_says : (t : Records) (k n : ℕ) → opening t k ≡ Ok n → (is_none t.holder ≡ true) × (n ≡ t.session + 1)
 opening_says t k n e =
