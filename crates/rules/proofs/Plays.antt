@@ -1,6 +1,6 @@
 -- A list of acts is a list of calls: a run does its steps' calls in order, and its rows show their replies.
 use Rattle.std.proofs.Common.{◌≡◌, ℕ, suc, eqb, List, [], ◌∷◌, ◌++◌, length, get_or, set, Some, None, Ok, Err, Option, Result, unwrap_or, sym, refl, ap, ◌∙◌, add-one, arith}
-use Rattle.std.proofs.lemmas.Bool.{eqb-true, and_parts}
+use Rattle.std.proofs.lemmas.Bool.{cond_both, eqb-true, and_parts}
 use Rattle.records.specs.Cells.{settled, fresh}
 use Rattle.records.specs.Records.{is_in_journal}
 use Rattle.records.specs.Questions.{admitted}
@@ -16,7 +16,7 @@ use Rattle.rules.specs.declared.step.Step.{Step}
 use Rattle.rules.specs.declared.answer.Answer.{Answer}
 use Rattle.records.specs.declared.records.Flush.{Flush}
 use Rattle.records.specs.declared.fault.SiteFault.{SiteFault}
-use Rattle.rules.proofs.Ways.{followed, chosen, by_disk_read, by_mark_read}
+use Rattle.rules.proofs.Ways.{followed, by_disk_read, by_mark_read}
 use Rattle.rules.proofs.Sight.{by_local_read, by_local_write}
 
 -- the calls of a list of acts
@@ -123,12 +123,12 @@ module _ {V : Type 0} (blank : V) where
   read_shows s k i g =
       let P : Outcome V (V × Source) → Type 0 = λ o. shown (read_reply i o.answer).answer (unwrap_or (read_reply i o.answer).got g) ≡ read_reply i o.answer in
       followed P s (admitted s.table k i) _ (λ e. refl) λ r _.
-      chosen P (settled r (is_in_journal s.table k i)) _ _
+      cond_both (settled r (is_in_journal s.table k i)) _ _ P
       (λ _. by_local_read P s k i blank _ (λ e. refl) (λ l ls rel. refl))
       (λ _.
       by_mark_read P s i _ (λ e. refl) λ lm.
       let s₁ : State V = with_marks s (stored s.marks.cells lm) in
-      chosen P (fresh r.kept (get_or s.marks.cells i 0)) _ _
+      cond_both (fresh r.kept (get_or s.marks.cells i 0)) _ _ P
       (λ _. by_local_read P s₁ k i blank _ (λ e. refl) (λ l ls rel. refl))
       (λ _.
       by_disk_read P s₁ i blank _ (λ e. refl) λ ld.
@@ -138,16 +138,16 @@ module _ {V : Type 0} (blank : V) where
   unfolding called
   step_shows s p v =
       let P : Call V → Type 0 = λ q. Shows (called blank s q).reply in
-      chosen P (eqb p.call 1) _ _ (λ _. open_shows _) λ _.
-      chosen P (eqb p.call 2) _ _ (λ _. read_shows s p.client p.cell) λ _.
-      chosen P (eqb p.call 3) _ _ (λ _. plain_shows _ _) λ _.
-      chosen P (eqb p.call 4) _ _ (λ _. noted_shows _ _) λ _.
-      chosen P (eqb p.call 5) _ _ (λ _. plain_shows _ _) λ _.
-      chosen P (eqb p.call 6) _ _ (λ _. plain_shows _ _) λ _.
-      chosen P (eqb p.call 7) _ _ (λ _. plain_shows _ _) λ _.
-      chosen P (eqb p.call 8) _ _ (λ _. swept_shows _) λ _.
-      chosen P (eqb p.call 9) _ _ (λ _. plain_shows _ _) λ _.
-      chosen P (eqb p.call 10) _ _ (λ _. plain_shows _ _) λ _ g. refl
+      cond_both (eqb p.call 1) _ _ P (λ _. open_shows _) λ _.
+      cond_both (eqb p.call 2) _ _ P (λ _. read_shows s p.client p.cell) λ _.
+      cond_both (eqb p.call 3) _ _ P (λ _. plain_shows _ _) λ _.
+      cond_both (eqb p.call 4) _ _ P (λ _. noted_shows _ _) λ _.
+      cond_both (eqb p.call 5) _ _ P (λ _. plain_shows _ _) λ _.
+      cond_both (eqb p.call 6) _ _ P (λ _. plain_shows _ _) λ _.
+      cond_both (eqb p.call 7) _ _ P (λ _. plain_shows _ _) λ _.
+      cond_both (eqb p.call 8) _ _ P (λ _. swept_shows _) λ _.
+      cond_both (eqb p.call 9) _ _ P (λ _. plain_shows _ _) λ _.
+      cond_both (eqb p.call 10) _ _ P (λ _. plain_shows _ _) λ _ g. refl
 
   -- the rows that a run leaves are the log of its calls
   rows_show : (s : State V) (ps : List Step) (vs gs : List V) → length gs ≡ length (calls_of ps vs)
@@ -168,7 +168,7 @@ module _ {V : Type 0} (blank : V) where
   pub run_does : (s : State V) (r : Rows V) → RunDoes s r (run_calls r)
   unfolding run_from
   run_does s r =
-      chosen (RunDoes s r) (equally_long r) _ _
+      cond_both (equally_long r) _ _ (RunDoes s r)
       (λ y.
       let a = and_parts _ _ y in
       let a' = and_parts _ _ a.1 in

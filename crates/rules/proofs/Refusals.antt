@@ -2,7 +2,7 @@
 use Rattle.std.proofs.Common.{◌≡◌, ℕ, zero, suc, ◌+◌, Bool, true, false, cond, eqb, ltb, ◌↔◌, List, map, length, get_or, set, Some, None, Ok, Err, Option, Result, sym, refl, ap, ◌∙◌, subst, arith}
 use Rattle.std.specs.Option.{is_none, ok_or}
 use Rattle.std.proofs.lemmas.List.{length-set, length-map}
-use Rattle.std.proofs.lemmas.Bool.{eqb-false, eq-eqb, lt-ltb, le-leb}
+use Rattle.std.proofs.lemmas.Bool.{cond_both, eqb-false, eq-eqb, lt-ltb, le-leb}
 use Rattle.store.specs.Stores.{after_renew}
 use Rattle.records.specs.Clients.{changed}
 use Rattle.records.specs.Faults.{says}
@@ -20,7 +20,7 @@ use Rattle.records.specs.declared.records.CellRecord.{CellRecord}
 use Rattle.records.specs.declared.records.Flush.{Flush}
 use Rattle.records.specs.declared.fault.SiteFault.{SiteFault}
 use Rattle.records.specs.declared.fault.SiteFault.TheVariants as fault
-use Rattle.rules.proofs.Ways.{followed, chosen, went_on, was_there, beginning_says}
+use Rattle.rules.proofs.Ways.{followed, went_on, was_there, beginning_says}
 use Rattle.rules.proofs.Shapes.{Sound, Own, note_own, num, Clear, zero_clear, Safe, safe_then, EightIs, Exact, true_false, there_says, clear_exact, question, held, celled, whole, with_disk_sound, with_marks_sound, with_locals_sound, with_client_sound, disk_read_safe, disk_write_safe, mark_read_safe, mark_write_safe, local_read_safe, local_write_safe}
 
 clear_lit : (n : ℕ) → eqb n 8 ≡ false → eqb n 12 ≡ false → Clear n
@@ -141,12 +141,12 @@ module _ {V : Type 0} where
   read_ends s k i h =
       exact_ends (read_reply i) (read_num V i) s k (Some i) (read_call s k i)
       (whole s k (Some i) (admitted s.table k i) _ h (admitted_exact s k i h) λ r _ th.
-      chosen Safe (settled r (is_in_journal s.table k i)) _ _
+      cond_both (settled r (is_in_journal s.table k i)) _ _ Safe
       (λ _. safe_then (local_read s k i) _ (local_read_safe s k i h th) (λ v h₁. (h₁, zero_clear)))
       (λ _.
       safe_then (mark_read s i) _ (mark_read_safe s i h) λ mark h₁.
       let s₁ : State V = (mark_read s i).state in
-      chosen Safe (fresh r.kept mark) _ _
+      cond_both (fresh r.kept mark) _ _ Safe
       (λ _. safe_then (local_read s₁ k i) _ (local_read_safe s₁ k i h₁ th) (λ v h₂. (with_cell_sound _ k i _ h₂, zero_clear)))
       (λ _.
       safe_then (disk_read s₁ i) _ (disk_read_safe s₁ i h₁) λ v h₂.
@@ -230,7 +230,7 @@ module _ {V : Type 0} where
       by : (o : Option CellRecord) → Safe (sweep_record s k i o)
       by None = (h, zero_clear)
       by (Some r) =
-          chosen Safe (sweeps r (is_in_journal s.table k i)) _ _
+          cond_both (sweeps r (is_in_journal s.table k i)) _ _ Safe
           (λ _. safe_then (mark_read s i) _ (mark_read_safe s i h) (λ mark h₁. (with_cell_sound _ k i (swept_cell r mark) h₁, zero_clear)))
           (λ _. (h, zero_clear))
 

@@ -1,11 +1,13 @@
 -- A fit site's parts go on fitting together, so that 8 and 12 are answered only by their own questions.
-use Rattle.std.proofs.Common.{◌≡◌, ℕ, zero, suc, ◌+◌, ◌<◌, ◌≤◌, Bool, true, false, ltb, ◌↔◌, List, [], ◌∷◌, map, length, set, replicate, Some, None, Ok, Err, Option, Result, sym, refl, ap, ◌∙◌, subst, arith}
+use Rattle.std.proofs.Common.{◌≡◌, ℕ, zero, suc, ◌+◌, ◌<◌, ◌≤◌, Bool, true, false, ltb, ◌↔◌, List, [], ◌∷◌, map, length, get_or, set, replicate, Some, None, Ok, Err, Option, Result, sym, refl, ap, ◌∙◌, subst, arith}
 use Rattle.std.specs.List.{slice_get}
 use Rattle.std.specs.Option.{is_none, ok_or, option_flatten}
 use Rattle.std.proofs.lemmas.List.{length-set}
+use Rattle.std.proofs.lemmas.Option.{slice_get-get_or}
 use Rattle.std.proofs.lemmas.Bool.{ltb-true, ltb-false, leb-true, and_parts}
 use Rattle.store.specs.Stores.{Stored, after, read_answer, write_answer, after_read, after_write}
 use Rattle.store.specs.declared.life.Fault.{Fault}
+use Rattle.records.specs.Cells.{new_cell}
 use Rattle.records.specs.Clients.{asked, changed}
 use Rattle.records.specs.Faults.{says}
 use Rattle.records.specs.Records.{Records, names, cell_of, journal_of, note_of}
@@ -39,11 +41,6 @@ entry_there g (x ∷ xs) zero y k e a b = absurd (omega arith)
 entry_there g (x ∷ xs) (suc n) y zero e a b = absurd (omega arith)
 entry_there g (x ∷ xs) (suc n) y (suc zero) e a b = (x, refl, cc)
 entry_there g (x ∷ xs) (suc n) y (suc (suc k)) e a b = entry_there g xs n y (suc k) (cc) (omega arith) (omega arith)
-
-nth_there : {X : Type 0} (xs : List X) (i : ℕ) → i < length xs → (x : X) × (slice_get xs i ≡ Some x)
-nth_there [] i h = absurd (omega arith)
-nth_there (x ∷ xs) zero h = (x, refl)
-nth_there (x ∷ xs) (suc i) h = nth_there xs i (omega arith)
 
 -- what a store's operations leave has as many cells
 pub kept_long : {X V : Type 0} (r : Result X Fault) (b : Stored V) (xs : List V) → length xs ≡ length b.cells → length (after r b xs).cells ≡ length b.cells
@@ -276,8 +273,7 @@ module _ {V : Type 0} where
       let m = h.cells in
       let c = entry_there records_count s.table.clients 8 1024 k h.records z.0 (omega arith) in
       let q = c.2 in
-      let r = nth_there c.0.cells i (omega arith) in
-      (r.0, ap option_flatten (asked_mapped (λ x. slice_get x.cells i) s.table.clients k ∙ ap (mapped (λ (x : ClientRecord). slice_get x.cells i)) c.1) ∙ r.1)
+      (get_or c.0.cells i new_cell, ap option_flatten (asked_mapped (λ x. slice_get x.cells i) s.table.clients k ∙ ap (mapped (λ (x : ClientRecord). slice_get x.cells i)) c.1) ∙ slice_get-get_or c.0.cells i new_cell (omega arith))
 
   abbrev cell_asks : State V → ℕ → ℕ → Bool → Result CellRecord SiteFault
   cell_asks s k i b = unless b fault.NoCell (ok_or (cell_of s.table k i) fault.NoCell)

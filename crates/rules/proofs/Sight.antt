@@ -17,7 +17,8 @@ use Rattle.records.specs.declared.fault.SiteFault.TheVariants.{NoClient}
 use Rattle.records.specs.declared.fault.StoreName.TheVariants.{Local}
 use Rattle.records.specs.declared.fault.Operation.TheVariants.{Read, Write}
 use Rattle.std.proofs.lemmas.Bool.{and_parts}
-use Rattle.rules.proofs.Ways.{store_read, store_write, entry, nth_found}
+use Rattle.std.proofs.lemmas.Option.{get_or_from_slice_get, slice_get_within, unwrap_or-slice_get}
+use Rattle.rules.proofs.Ways.{store_read, store_write, entry}
 
 pub record Client (V : Type 0) : Type 0 where
   pub local : Stored V
@@ -206,18 +207,13 @@ journal_is t c = ap option_flatten (asked_mapped (λ x. x.journal) t.clients c) 
     by None = refl
     by (Some x) = refl
 
-nth_or : (xs : List CellRecord) (i : ℕ) → unwrap_or (slice_get xs i) new_cell ≡ get_or xs i new_cell
-nth_or [] i = refl
-nth_or (x ∷ xs) zero = refl
-nth_or (x ∷ xs) (suc i) = nth_or xs i
-
 pub record_is : (t : Records) (c i : ℕ) → record_of t c i ≡ get_or (cells_in (client_of t c)) i new_cell
 unfolding cell_of
 record_is t c i = ap (λ o. unwrap_or (option_flatten o) new_cell) (asked_mapped (λ x. slice_get x.cells i) t.clients c) ∙ by (client_of t c)
   where
     by : (o : Option ClientRecord) → unwrap_or (option_flatten (mapped (λ (x : ClientRecord). slice_get x.cells i) o)) new_cell ≡ get_or (cells_in o) i new_cell
     by None = refl
-    by (Some x) = nth_or x.cells i
+    by (Some x) = unwrap_or-slice_get x.cells i new_cell
 
 pub cell_known : (t : Records) (c i : ℕ) (r : CellRecord) → cell_of t c i ≡ Some r → (get_or (cells_in (client_of t c)) i new_cell ≡ r) × (i < length (cells_in (client_of t c)))
 unfolding cell_of
@@ -225,7 +221,7 @@ cell_known t c i r e = by (client_of t c) (sym (ap option_flatten (asked_mapped 
   where
     by : (o : Option ClientRecord) → option_flatten (mapped (λ (x : ClientRecord). slice_get x.cells i) o) ≡ Some r → (get_or (cells_in o) i new_cell ≡ r) × (i < length (cells_in o))
     by None q = cc
-    by (Some x) q = nth_found x.cells i r new_cell q
+    by (Some x) q = (get_or_from_slice_get x.cells i r new_cell q, slice_get_within x.cells i r q)
 
 pub flush_known : (t : Records) (c i n : ℕ) → flushing t c i n ≡ true → names (journal_in (client_of t c)) i ≡ true
 unfolding flushing

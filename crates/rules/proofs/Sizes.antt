@@ -1,5 +1,6 @@
 -- No call changes how many cells and clients a site has.
 use Rattle.std.proofs.Common.{◌≡◌, ℕ, zero, suc, ◌+◌, Bool, cond, List, [], ◌∷◌, Some, None, Ok, Err, Option, Result, refl, ◌∙◌}
+use Rattle.std.proofs.lemmas.Bool.{cond_both}
 use Rattle.records.specs.Cells.{settled, fresh, sweeps}
 use Rattle.records.specs.Records.{cell_of, is_in_journal}
 use Rattle.records.specs.Questions.{fit, present, holding, admitted, opening, beginning, committing, giving_up, closing, taking_to_commit, taking_to_give_up}
@@ -9,7 +10,6 @@ use Rattle.rules.specs.Replies.{Call, Open, Read, Write, Begin, Commit, GiveUp, 
 use Rattle.records.specs.declared.records.CellRecord.{CellRecord}
 use Rattle.records.specs.declared.records.Flush.{Flush}
 use Rattle.records.specs.declared.fault.SiteFault.{SiteFault}
-use Rattle.rules.proofs.Ways.{chosen}
 use Rattle.rules.proofs.Plays.{calls_after}
 
 module _ {V : Type 0} where
@@ -37,12 +37,12 @@ module _ {V : Type 0} where
   unfolding read_local read_confirmed read_fetched
   read_kept s k i =
       kept_then s (outcome s (admitted s.table k i)) _ (same s) λ r.
-      chosen (Keeps s) (settled r (is_in_journal s.table k i)) _ _
+      cond_both (settled r (is_in_journal s.table k i)) _ _ (Keeps s)
       (λ _. kept_then s (local_read s k i) _ (same s) (λ v. same s))
       (λ _.
       kept_then s (mark_read s i) _ (same s) λ mark.
       let s₁ : State V = (mark_read s i).state in
-      chosen (Keeps s) (fresh r.kept mark) _ _
+      cond_both (fresh r.kept mark) _ _ (Keeps s)
       (λ _. kept_then s (local_read s₁ k i) _ (same s) (λ v. same s))
       (λ _. kept_then s (disk_read s₁ i) _ (same s) (λ v. kept_then s (local_write (disk_read s₁ i).state k i v) _ (same s) (λ _. same s))))
 
@@ -72,7 +72,7 @@ module _ {V : Type 0} where
     where
       by : (o : Option CellRecord) → Keeps s (sweep_record s k i o)
       by None = same s
-      by (Some r) = chosen (Keeps s) (sweeps r (is_in_journal s.table k i)) _ _ (λ _. kept_then s (mark_read s i) _ (same s) (λ mark. same s)) (λ _. same s)
+      by (Some r) = cond_both (sweeps r (is_in_journal s.table k i)) _ _ (Keeps s) (λ _. kept_then s (mark_read s i) _ (same s) (λ mark. same s)) (λ _. same s)
 
   sweep_kept : (n k i d : ℕ) (s : State V) → AsMany s (sweep_from k n s i d).state
   unfolding sweep_from

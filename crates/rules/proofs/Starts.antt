@@ -1,6 +1,6 @@
 -- A new fit site satisfies the invariant.
 use Rattle.std.proofs.Common.{◌≡◌, ℕ, zero, suc, ◌+◌, ◌<◌, ◌≤◌, Bool, true, false, cond, ◌&&◌, eqb, ltb, leb, List, length, get_or, replicate, Some, None, Option, sym, refl, ap, ◌∙◌, arith}
-use Rattle.std.proofs.lemmas.Bool.{leb-true}
+use Rattle.std.proofs.lemmas.Bool.{cond_both, leb-true}
 use Rattle.store.specs.Lengths.{all_long}
 use Rattle.store.specs.Stores.{Stored, stored}
 use Rattle.records.specs.Clients.{asked}
@@ -11,7 +11,7 @@ use Rattle.rules.specs.Book.{Book, sent}
 use Rattle.records.specs.declared.records.ClientRecord.{ClientRecord}
 use Rattle.records.specs.declared.fault.Unfit.{Unfit}
 use Rattle.records.specs.declared.fault.Unfit.TheVariants.{DiskSize, MarksSize, ClientCount, LocalSize}
-use Rattle.rules.proofs.Ways.{chosen, store_read, equal_or_not}
+use Rattle.rules.proofs.Ways.{store_read, equal_or_not}
 use Rattle.rules.proofs.Sight.{view, cells_in, journal_in}
 use Rattle.rules.proofs.Invariant.{Keeps, Inv}
 
@@ -28,7 +28,7 @@ look_says (suc f) i n ms =
     store_read (λ b r. P (look_more (look_from f (i + 1) n) n b r)) ms i 0
     (λ e. ((λ q. cc), refl))
     λ _ l.
-    chosen P (leb (get_or ms.cells i 0) n) _ _
+    cond_both (leb (get_or ms.cells i 0) n) _ _ P
     (λ y.
     let r = look_says f (i + 1) n (stored ms.cells l) in
     let x : get_or ms.cells i 0 ≤ n = leb-true _ _ y in

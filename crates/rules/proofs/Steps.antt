@@ -2,7 +2,7 @@
 use Rattle.std.proofs.Common.{◌≡◌, ℕ, zero, suc, ◌+◌, ◌<◌, Bool, true, false, cond, ◌||◌, eqb, List, [], ◌∷◌, map, length, get_or, set, Some, None, Ok, Err, Option, Result, sym, refl, ap, ◌∙◌, subst, add-one, arith}
 use Rattle.std.specs.Option.{is_none}
 use Rattle.std.proofs.lemmas.List.{get_or-set_same, get_or-set_other, length-set, length-map}
-use Rattle.std.proofs.lemmas.Bool.{eqb-true, eq-eqb, ne_eqb, and_parts, or_parts, not-true}
+use Rattle.std.proofs.lemmas.Bool.{cond_both, eqb-true, eq-eqb, ne_eqb, and_parts, or_parts, not-true}
 use Rattle.store.specs.declared.life.Life.{Life}
 use Rattle.store.specs.Stores.{Stored, stored, after_renew}
 use Rattle.records.specs.Clients as clients
@@ -26,7 +26,7 @@ use Rattle.records.specs.declared.fault.SiteFault.{SiteFault}
 use Rattle.records.specs.declared.fault.SiteFault.TheVariants as fault
 use Rattle.records.specs.declared.fault.StoreName.{StoreName}
 use Rattle.records.specs.declared.fault.StoreName.TheVariants.{Local, Marks, Disk}
-use Rattle.rules.proofs.Ways.{followed, chosen, by_disk_read, by_mark_read, by_disk_write, by_mark_write, entry, equal_or_not, somebody, nobody_else, unnamed, unheld, was_yes, admitted_says, opening_says, beginning_says, committing_says, closing_says, holding_says}
+use Rattle.rules.proofs.Ways.{followed, by_disk_read, by_mark_read, by_disk_write, by_mark_write, entry, equal_or_not, somebody, nobody_else, unnamed, unheld, was_yes, admitted_says, opening_says, beginning_says, committing_says, closing_says, holding_says}
 use Rattle.rules.proofs.Sight.{Client, View, with_client, with_cells, held_by, store_of, client_of, cells_in, journal_in, mapped, seen, view, Relocal, same_locals, view_both, view_locals, by_local_read, by_local_write, journal_is, record_is, cell_known, flush_known}
 use Rattle.rules.proofs.Sight as sight
 use Rattle.rules.proofs.Invariant.{Inv, Of, Knows, Filed, mark_at, disk_at, changed, moved, lives, remarked, rewritten, write_own, book_other, check_own, fetch_own, begin_own, journal_else, sent_own, sent_serves, give_own, restart_own, drop_own, open_own, open_other, open_serves, close_own, close_other, close_serves, read_sure, read_fresh, read_disk, unsent_serves}
@@ -349,7 +349,7 @@ module _ {V : Type 0} (blank : V) where
       let w = cell_known s.table c k x y.2 in
       let xs : List V = (store_of s.locals c).cells in
       let kp = own_keeps s b c k x i h w.0 in
-      chosen P (settled x (is_in_journal s.table c k)) _ _
+      cond_both (settled x (is_in_journal s.table c k)) _ _ P
       (λ u.
       by_local_read P s c k blank _ (λ e. bad e k 0 refl i) λ l ls rel.
       record {
@@ -362,7 +362,7 @@ module _ {V : Type 0} (blank : V) where
       by_mark_read P s k _ (λ e. bad e k 0 refl i) λ lm.
       let s₁ : State V = with_marks s (stored s.marks.cells lm) in
       let i₁ : Kept s₁ b = lives blank m lm s.disk.life i in
-      chosen P (fresh x.kept (get_or s.marks.cells k 0)) _ _
+      cond_both (fresh x.kept (get_or s.marks.cells k 0)) _ _ P
       (λ f.
       by_local_read P s₁ c k blank _ (λ e. bad e k 0 refl i₁) λ l ls rel.
       record {
@@ -409,7 +409,7 @@ module _ {V : Type 0} (blank : V) where
       by None e = go s _ i mine
       by (Some x) e =
           let P : Outcome V Bool → Type 0 = Onward s b rest j d in
-          chosen P (sweeps x (is_in_journal s.table c j)) _ _
+          cond_both (sweeps x (is_in_journal s.table c j)) _ _ P
           (λ u.
           let w = cell_known s.table c j x e in
           let q = or_parts _ _ (not-true _ (and_parts _ _ u).1) in
@@ -421,7 +421,7 @@ module _ {V : Type 0} (blank : V) where
           let R : CellRecord → Type 0 = λ r. j < s.table.size
           → Knows blank s.table.size (view s₁) (b j) j c ((view s₁).clients c) r (mark_at (view s₁) j) (disk_at blank s.table.size (view s₁) j) in
           let own : R (swept_cell x mark) =
-          chosen R (fresh x.kept mark) _ _
+          cond_both (fresh x.kept mark) _ _ R
           (λ y h. check_own (own_keeps s₁ b c j x i₁ h w.0) mine q.0 f y)
           (λ _ h. drop_own (own_keeps s₁ b c j x i₁ h w.0) q.0 f) in
           go (with_table s₁ (with_cell s.table c j (swept_cell x mark))) _ (noticed s₁ b c j (swept_cell x mark) i₁ w.1 own) mine)

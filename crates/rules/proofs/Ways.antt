@@ -1,9 +1,10 @@
 -- How a proof follows a call: at each question, at each store operation, and at each table entry.
-use Rattle.std.proofs.Common.{◌≡◌, ℕ, zero, suc, ◌+◌, ◌<◌, ◌≤◌, Bool, true, false, cond, eqb, ltb, ◌⊎◌, List, [], ◌∷◌, length, get_or, set, is_some, Some, None, Ok, Err, Option, Result, sym, refl, ap, ◌∙◌, subst, inl, inr, arith}
+use Rattle.std.proofs.Common.{◌≡◌, ℕ, zero, suc, ◌+◌, ◌<◌, ◌≤◌, Bool, true, false, cond, eqb, ltb, ◌⊎◌, List, length, get_or, set, is_some, Some, None, Ok, Err, Option, Result, sym, refl, ap, ◌∙◌, subst, inl, inr, arith}
 use Rattle.std.specs.List.{slice_get}
 use Rattle.std.specs.Option.{is_none, ok_or}
 use Rattle.std.proofs.lemmas.Bool.{ltb-true, eqb-true, eqb-false, cases_eq}
 use Rattle.std.proofs.lemmas.List.{get_or-set_same, get_or-set_other}
+use Rattle.std.proofs.lemmas.Option.{get_or_from_slice_get, slice_get_within, cond_some}
 use Rattle.store.specs.declared.life.Life.{Life}
 use Rattle.store.specs.Stores.{Stored, stored, granted, alive, spent, within, after, read_answer, write_answer, after_read, after_write}
 use Rattle.store.specs.declared.life.Fault.{Fault}
@@ -23,15 +24,6 @@ pub followed : {V X Y : Type 0} (P : Outcome V Y → Type 0) (s : State V) (r : 
 followed P s (Ok x) f bad go = go x refl
 followed P s (Err e) f bad go = bad e
 
-pub chosen : {X : Type 0} (P : X → Type 0) (b : Bool) (x y : X) → (b ≡ true → P x) → (b ≡ false → P y) → P (cond b x y)
-chosen P true x y f g = f refl
-chosen P false x y f g = g refl
-
-pub nth_found : {V : Type 0} (xs : List V) (i : ℕ) (v d : V) → slice_get xs i ≡ Some v → (get_or xs i d ≡ v) × (i < length xs)
-nth_found [] i v d e = cc
-nth_found (x ∷ xs) zero v d e = (cc, omega arith)
-nth_found (x ∷ xs) (suc i) v d e = let h = nth_found xs i v d e in (h.0, omega arith)
-
 -- an operation that would answer x: refused, and the store is as before; or accepted, and it has other cells and another life
 tried : {X V : Type 0} (P : Stored V → Result X Fault → Type 0) (b : Stored V) (xs : List V) (o : Option X)
     → ((e : Fault) → P b (Err e)) → ((x : X) → o ≡ Some x → (l : Life) → P (stored xs l) (Ok x)) → P (after (granted b.life o) b xs) (granted b.life o)
@@ -46,18 +38,11 @@ pub store_read : {V : Type 0} (P : Stored V → Result V Fault → Type 0) (b : 
     → ((e : Fault) → P b (Err e)) → (i < length b.cells → (l : Life) → P (stored b.cells l) (Ok (get_or b.cells i blank))) → P (after_read b i) (read_answer b i)
 store_read {V} P b i blank bad go =
     tried P b b.cells (slice_get b.cells i) bad
-    (λ v e l. let h = nth_found b.cells i v blank e in subst (λ (w : V). P (stored b.cells l) (Ok w)) h.0 (go h.1 l))
-
-inside_found : {V : Type 0} (b : Stored V) (i : ℕ) (x : Unit {0}) → within (length b.cells) i ≡ Some x → i < length b.cells
-inside_found b i x e = go (ltb i (length b.cells)) refl e
-  where
-    go : (t : Bool) → ltb i (length b.cells) ≡ t → cond t (Some tt) None ≡ Some x → i < length b.cells
-    go true h q = ltb-true _ _ h
-    go false h q = cc
+    (λ v e l. subst (λ (w : V). P (stored b.cells l) (Ok w)) (get_or_from_slice_get b.cells i v blank e) (go (slice_get_within b.cells i v e) l))
 
 pub store_write : {V : Type 0} (P : Stored V → Result (Unit {0}) Fault → Type 0) (b : Stored V) (i : ℕ) (v : V)
     → ((e : Fault) → P b (Err e)) → (i < length b.cells → (l : Life) → P (stored (set b.cells i v) l) (Ok tt)) → P (after_write b i v) (write_answer b i)
-store_write P b i v bad go = tried P b (set b.cells i v) (within (length b.cells) i) bad (λ x e l. go (inside_found b i x e) l)
+store_write P b i v bad go = tried P b (set b.cells i v) (within (length b.cells) i) bad (λ x e l. go (ltb-true _ _ (cond_some (ltb i (length b.cells)) tt x e).0) l)
 
 module _ {V Y : Type 0} (P : Outcome V Y → Type 0) (s : State V) where
   pub by_disk_read : (i : ℕ) (blank : V) (f : State V → V → Outcome V Y) → ((e : SiteFault) → P (outcome s (Err e)))
