@@ -1,7 +1,7 @@
 -- A fit site's parts go on fitting together, so that 8 and 12 are answered only by their own questions.
 use Rattle.std.proofs.Common.{◌≡◌, ℕ, zero, suc, ◌+◌, ◌<◌, ◌≤◌, Bool, true, false, ltb, ◌↔◌, List, [], ◌∷◌, map, length, get_or, set, replicate, Some, None, Ok, Err, Option, Result, sym, refl, ap, ◌∙◌, subst, arith}
 use Rattle.std.specs.List.{slice_get}
-use Rattle.std.specs.Option.{is_none, ok_or, option_flatten}
+use Rattle.std.specs.Option.{is_none, ok_or, option_flatten, option_map}
 use Rattle.std.proofs.lemmas.List.{length-set}
 use Rattle.std.proofs.lemmas.Option.{slice_get-get_or}
 use Rattle.std.proofs.lemmas.Bool.{ltb-true, ltb-false, leb-true, and_parts}
@@ -23,7 +23,8 @@ use Rattle.records.specs.declared.fault.StoreName.{StoreName}
 use Rattle.records.specs.declared.fault.StoreName.TheVariants.{Local, Marks, Disk}
 use Rattle.records.specs.declared.fault.Operation.{Operation}
 use Rattle.records.specs.declared.fault.Operation.TheVariants.{Read, Write}
-use Rattle.rules.proofs.Sight.{mapped, asked_mapped, changed_at, changed_else}
+use Rattle.records.proofs.Tables.{asked_as}
+use Rattle.rules.proofs.Sight.{changed_at, changed_else}
 use Rattle.rules.proofs.Ways.{equal_or_not}
 
 -- lists told by client number, by what their entries measure
@@ -141,7 +142,7 @@ module _ {V : Type 0} where
             (λ q. subst (ProperAt m j) (sym (changed_else f cs k j q)) (h.proper j));
       }
     where
-      moved : (x : Option ClientRecord) → ProperAt s.table.size k x → ProperAt s.table.size k (mapped f x)
+      moved : (x : Option ClientRecord) → ProperAt s.table.size k x → ProperAt s.table.size k (option_map f x)
       moved None q = tt
       moved (Some c) q = w c q
 
@@ -149,17 +150,17 @@ module _ {V : Type 0} (s : State V) (k : ℕ) where
   -- what a proper record says of the note and the journal
   pub note_own : (n : Flush) → Sound s → note_of s.table k ≡ Some n → n.client ≡ k
   unfolding note_of
-  note_own n h e = by (asked (λ c. c) s.table.clients k) (h.proper k) (sym (ap option_flatten (asked_mapped (λ c. c.note) s.table.clients k)) ∙ e)
+  note_own n h e = by (asked (λ c. c) s.table.clients k) (h.proper k) (sym (ap option_flatten (asked_as (λ c. c.note) s.table.clients k)) ∙ e)
     where
-      by : (o : Option ClientRecord) → ProperAt s.table.size k o → option_flatten (mapped (λ (c : ClientRecord). c.note) o) ≡ Some n → n.client ≡ k
+      by : (o : Option ClientRecord) → ProperAt s.table.size k o → option_flatten (option_map (λ (c : ClientRecord). c.note) o) ≡ Some n → n.client ≡ k
       by None w q = cc
       by (Some c) w q = subst (Own k) q w.0
 
   pub journal_inside : (i : ℕ) → Sound s → journal_of s.table k ≡ Some i → i < s.table.size
   unfolding journal_of
-  journal_inside i h e = by (asked (λ c. c) s.table.clients k) (h.proper k) (sym (ap option_flatten (asked_mapped (λ c. c.journal) s.table.clients k)) ∙ e)
+  journal_inside i h e = by (asked (λ c. c) s.table.clients k) (h.proper k) (sym (ap option_flatten (asked_as (λ c. c.journal) s.table.clients k)) ∙ e)
     where
-      by : (o : Option ClientRecord) → ProperAt s.table.size k o → option_flatten (mapped (λ (c : ClientRecord). c.journal) o) ≡ Some i → i < s.table.size
+      by : (o : Option ClientRecord) → ProperAt s.table.size k o → option_flatten (option_map (λ (c : ClientRecord). c.journal) o) ≡ Some i → i < s.table.size
       by None w q = cc
       by (Some c) w q = subst (Inside s.table.size) q w.1
 
@@ -183,7 +184,7 @@ module _ {V : Type 0} where
   local_clear {X} s k i o f h th =
       let z = there_says s.table k th in
       let b = entry_there cells_count s.locals s.table.count (s.table.size + 1) k h.locals z.0 z.1 in
-      subst (λ (r : Option (Result X Fault)). Clear (num (told_local i o r))) (sym (asked_mapped f s.locals k ∙ ap (mapped f) b.1)) (told_clear Local i o (f b.0))
+      subst (λ (r : Option (Result X Fault)). Clear (num (told_local i o r))) (sym (asked_as f s.locals k ∙ ap (option_map f) b.1)) (told_clear Local i o (f b.0))
 
   -- once the questions are a yes: the site is sound, and no refusal is 8 or 12
   abbrev pub Safe : {X : Type 0} → Outcome V X → Type 0
@@ -273,7 +274,7 @@ module _ {V : Type 0} where
       let m = h.cells in
       let c = entry_there records_count s.table.clients 8 1024 k h.records z.0 (omega arith) in
       let q = c.2 in
-      (get_or c.0.cells i new_cell, ap option_flatten (asked_mapped (λ x. slice_get x.cells i) s.table.clients k ∙ ap (mapped (λ (x : ClientRecord). slice_get x.cells i)) c.1) ∙ slice_get-get_or c.0.cells i new_cell (omega arith))
+      (get_or c.0.cells i new_cell, ap option_flatten (asked_as (λ x. slice_get x.cells i) s.table.clients k ∙ ap (option_map (λ (x : ClientRecord). slice_get x.cells i)) c.1) ∙ slice_get-get_or c.0.cells i new_cell (omega arith))
 
   abbrev cell_asks : State V → ℕ → ℕ → Bool → Result CellRecord SiteFault
   cell_asks s k i b = unless b fault.NoCell (ok_or (cell_of s.table k i) fault.NoCell)

@@ -1,7 +1,7 @@
 -- What the invariant looks at: each client's store, cells and journal, by client number.
 use Rattle.std.proofs.Common.{◌≡◌, ℕ, zero, suc, ◌<◌, true, false, List, [], ◌∷◌, length, get_or, set, Some, None, Err, Option, Result, unwrap_or, sym, refl, ap, ◌∙◌, subst}
 use Rattle.std.specs.List.{slice_get}
-use Rattle.std.specs.Option.{option_flatten}
+use Rattle.std.specs.Option.{option_flatten, option_map}
 use Rattle.store.specs.declared.life.Life.{Life}
 use Rattle.store.specs.Stores.{Stored, endless, stored, read_answer, write_answer, after_read, after_write}
 use Rattle.store.specs.declared.life.Fault.{Fault}
@@ -18,6 +18,7 @@ use Rattle.records.specs.declared.fault.StoreName.TheVariants.{Local}
 use Rattle.records.specs.declared.fault.Operation.TheVariants.{Read, Write}
 use Rattle.std.proofs.lemmas.Bool.{and_parts}
 use Rattle.std.proofs.lemmas.Option.{get_or_from_slice_get, slice_get_within, unwrap_or-slice_get}
+use Rattle.records.proofs.Tables.{asked_as}
 use Rattle.rules.proofs.Ways.{store_read, store_write, entry}
 
 pub record Client (V : Type 0) : Type 0 where
@@ -72,10 +73,6 @@ journal_in (Some x) = x.journal
 abbrev pub client_of : Records → ℕ → Option ClientRecord
 client_of t c = asked (λ x. x) t.clients c
 
-abbrev pub mapped : {X Y : Type 0} → (X → Y) → Option X → Option Y
-mapped f None = None
-mapped f (Some x) = Some (f x)
-
 abbrev pub seen : {V : Type 0} → Stored V → Option ClientRecord → Client V
 seen l o = record { local = l; cells = cells_in o; journal = journal_in o }
 
@@ -89,13 +86,7 @@ view s = record {
 }
 
 -- entries of a list told by client number
-pub asked_mapped : {X Y : Type 0} (f : X → Y) (xs : List X) (k : ℕ) → asked f xs k ≡ mapped f (asked (λ x. x) xs k)
-asked_mapped f [] k = refl
-asked_mapped f (x ∷ xs) zero = refl
-asked_mapped f (x ∷ xs) (suc zero) = refl
-asked_mapped f (x ∷ xs) (suc (suc k)) = asked_mapped f xs (suc k)
-
-pub changed_at : {X : Type 0} (f : X → X) (xs : List X) (k : ℕ) → asked (λ x. x) (changed f xs k) k ≡ mapped f (asked (λ x. x) xs k)
+pub changed_at : {X : Type 0} (f : X → X) (xs : List X) (k : ℕ) → asked (λ x. x) (changed f xs k) k ≡ option_map f (asked (λ x. x) xs k)
 changed_at f [] k = refl
 changed_at f (x ∷ xs) zero = refl
 changed_at f (x ∷ xs) (suc zero) = refl
@@ -112,7 +103,7 @@ changed_else f (x ∷ xs) (suc (suc k)) (suc zero) n = refl
 changed_else f (x ∷ xs) (suc (suc k)) (suc (suc j)) n = changed_else f xs (suc k) (suc j) (λ e. n (ap suc e))
 
 -- nothing changes where f leaves the entry as it is, or there is none
-pub changed_same : {X : Type 0} (f : X → X) (xs : List X) (k : ℕ) → mapped f (asked (λ x. x) xs k) ≡ asked (λ x. x) xs k → changed f xs k ≡ xs
+pub changed_same : {X : Type 0} (f : X → X) (xs : List X) (k : ℕ) → option_map f (asked (λ x. x) xs k) ≡ asked (λ x. x) xs k → changed f xs k ≡ xs
 changed_same f [] k e = refl
 changed_same f (x ∷ xs) zero e = refl
 changed_same f (x ∷ xs) (suc zero) e = let q : f x ≡ x = cc in ap (λ y. y ∷ xs) q
@@ -128,13 +119,13 @@ same_locals ls c = record { own = refl; else = λ c' n. refl }
 
 -- client c's store was changed to b, and its record by f
 pub view_both : {V : Type 0} (s : State V) (ls : List (Stored V)) (f : ClientRecord → ClientRecord) (c : ℕ) (b : Stored V) → Relocal s.locals c b ls
-    → view (with_table (with_locals s ls) (with_clients s.table (changed f s.table.clients c))) ≡ with_client (view s) c (seen b (mapped f (client_of s.table c)))
+    → view (with_table (with_locals s ls) (with_clients s.table (changed f s.table.clients c))) ≡ with_client (view s) c (seen b (option_map f (client_of s.table c)))
 view_both {V} s ls f c b r = λ i. record { disk = s.disk; marks = s.marks; session = s.table.session; holder = s.table.holder; clients = λ c'. at c' i }
   where
-    at : (c' : ℕ) → seen (store_of ls c') (asked (λ x. x) (changed f s.table.clients c) c') ≡ put (view s).clients c (seen b (mapped f (client_of s.table c))) c'
+    at : (c' : ℕ) → seen (store_of ls c') (asked (λ x. x) (changed f s.table.clients c) c') ≡ put (view s).clients c (seen b (option_map f (client_of s.table c))) c'
     at c' =
         entry (λ z. seen (store_of ls c') (asked (λ x. x) (changed f s.table.clients c) c') ≡ z) (view s).clients c _ c'
-        (λ e. subst (λ (j : ℕ). seen (store_of ls j) (asked (λ x. x) (changed f s.table.clients c) j) ≡ seen b (mapped f (client_of s.table c))) (sym e)
+        (λ e. subst (λ (j : ℕ). seen (store_of ls j) (asked (λ x. x) (changed f s.table.clients c) j) ≡ seen b (option_map f (client_of s.table c))) (sym e)
         (ap (λ (x : Stored V). seen x (asked (λ x. x) (changed f s.table.clients c) c)) r.own ∙ ap (seen b) (changed_at f s.table.clients c)))
         (λ n. ap (λ (x : Stored V). seen x (asked (λ x. x) (changed f s.table.clients c) c')) (r.else c' n) ∙ ap (seen (store_of s.locals c')) (changed_else f s.table.clients c c' n))
 
@@ -157,7 +148,7 @@ module _ {V Y : Type 0} (P : Outcome V Y → Type 0) (s : State V) (c : ℕ) whe
   relocal : (f : Stored V → Stored V) (b b' : Stored V) → asked (λ x. x) s.locals c ≡ Some b → f b ≡ b' → Relocal s.locals c b' (changed f s.locals c)
   relocal f b b' e q =
       record {
-        own = ap or_no_store (changed_at f s.locals c ∙ ap (mapped f) e) ∙ q;
+        own = ap or_no_store (changed_at f s.locals c ∙ ap (option_map f) e) ∙ q;
         else = λ c' n. ap or_no_store (changed_else f s.locals c c' n);
       }
 
@@ -166,15 +157,15 @@ module _ {V Y : Type 0} (P : Outcome V Y → Type 0) (s : State V) (c : ℕ) whe
       → P (f (with_locals s ls) (get_or (store_of s.locals c).cells i blank)))
       → P (local_read s c i then f)
   by_local_read i blank f bad go =
-      subst (λ (r : Option (Result V Fault)). P (next (with_locals s (changed (read_on i) s.locals c)) (told_local i Read r) f)) (sym (asked_mapped (λ b. read_answer b i) s.locals c))
+      subst (λ (r : Option (Result V Fault)). P (next (with_locals s (changed (read_on i) s.locals c)) (told_local i Read r) f)) (sym (asked_as (λ b. read_answer b i) s.locals c))
       (by (asked (λ x. x) s.locals c) refl)
     where
       by : (o : Option (Stored V)) → asked (λ x. x) s.locals c ≡ o
-          → P (next (with_locals s (changed (read_on i) s.locals c)) (told_local i Read (mapped (λ b. read_answer b i) o)) f)
-      by None e = subst (λ (xs : List (Stored V)). P (outcome (with_locals s xs) (Err NoClient))) (sym (changed_same (read_on i) s.locals c (ap (mapped (read_on i)) e ∙ sym e))) (bad NoClient)
+          → P (next (with_locals s (changed (read_on i) s.locals c)) (told_local i Read (option_map (λ b. read_answer b i) o)) f)
+      by None e = subst (λ (xs : List (Stored V)). P (outcome (with_locals s xs) (Err NoClient))) (sym (changed_same (read_on i) s.locals c (ap (option_map (read_on i)) e ∙ sym e))) (bad NoClient)
       by (Some b) e =
           store_read (λ b' r. (read_on i) b ≡ b' → P (next (with_locals s (changed (read_on i) s.locals c)) (told Local i Read r) f)) b i blank
-          (λ x q. subst (λ (xs : List (Stored V)). P (outcome (with_locals s xs) (told Local i Read (Err x)))) (sym (changed_same (read_on i) s.locals c (ap (mapped (read_on i)) e ∙ (ap Some q ∙ sym e)))) (bad _))
+          (λ x q. subst (λ (xs : List (Stored V)). P (outcome (with_locals s xs) (told Local i Read (Err x)))) (sym (changed_same (read_on i) s.locals c (ap (option_map (read_on i)) e ∙ (ap Some q ∙ sym e)))) (bad _))
           (λ h l q.
           subst (λ (x : Stored V). Relocal s.locals c (stored x.cells l) (changed (read_on i) s.locals c) → P (f (with_locals s (changed (read_on i) s.locals c)) (get_or x.cells i blank)))
           (ap or_no_store e) (go l (changed (read_on i) s.locals c)) (relocal (read_on i) b (stored b.cells l) e q))
@@ -184,15 +175,15 @@ module _ {V Y : Type 0} (P : Outcome V Y → Type 0) (s : State V) (c : ℕ) whe
       → (i < length (store_of s.locals c).cells → (l : Life) (ls : List (Stored V)) → Relocal s.locals c (stored (set (store_of s.locals c).cells i v) l) ls → P (f (with_locals s ls) tt))
       → P (local_write s c i v then f)
   by_local_write i v f bad go =
-      subst (λ (r : Option (Result (Unit {0}) Fault)). P (next (with_locals s (changed (written_on i v) s.locals c)) (told_local i Write r) f)) (sym (asked_mapped (λ b. write_answer b i) s.locals c))
+      subst (λ (r : Option (Result (Unit {0}) Fault)). P (next (with_locals s (changed (written_on i v) s.locals c)) (told_local i Write r) f)) (sym (asked_as (λ b. write_answer b i) s.locals c))
       (by (asked (λ x. x) s.locals c) refl)
     where
       by : (o : Option (Stored V)) → asked (λ x. x) s.locals c ≡ o
-          → P (next (with_locals s (changed (written_on i v) s.locals c)) (told_local i Write (mapped (λ b. write_answer b i) o)) f)
-      by None e = subst (λ (xs : List (Stored V)). P (outcome (with_locals s xs) (Err NoClient))) (sym (changed_same (written_on i v) s.locals c (ap (mapped (written_on i v)) e ∙ sym e))) (bad NoClient)
+          → P (next (with_locals s (changed (written_on i v) s.locals c)) (told_local i Write (option_map (λ b. write_answer b i) o)) f)
+      by None e = subst (λ (xs : List (Stored V)). P (outcome (with_locals s xs) (Err NoClient))) (sym (changed_same (written_on i v) s.locals c (ap (option_map (written_on i v)) e ∙ sym e))) (bad NoClient)
       by (Some b) e =
           store_write (λ b' r. (written_on i v) b ≡ b' → P (next (with_locals s (changed (written_on i v) s.locals c)) (told Local i Write r) f)) b i v
-          (λ x q. subst (λ (xs : List (Stored V)). P (outcome (with_locals s xs) (told Local i Write (Err x)))) (sym (changed_same (written_on i v) s.locals c (ap (mapped (written_on i v)) e ∙ (ap Some q ∙ sym e)))) (bad _))
+          (λ x q. subst (λ (xs : List (Stored V)). P (outcome (with_locals s xs) (told Local i Write (Err x)))) (sym (changed_same (written_on i v) s.locals c (ap (option_map (written_on i v)) e ∙ (ap Some q ∙ sym e)))) (bad _))
           (λ h l q.
           subst (λ (x : Stored V). i < length x.cells → Relocal s.locals c (stored (set x.cells i v) l) (changed (written_on i v) s.locals c) → P (f (with_locals s (changed (written_on i v) s.locals c)) tt))
           (ap or_no_store e) (λ z. go z l (changed (written_on i v) s.locals c)) h (relocal (written_on i v) b (stored (set b.cells i v) l) e q))
@@ -201,32 +192,32 @@ module _ {V Y : Type 0} (P : Outcome V Y → Type 0) (s : State V) (c : ℕ) whe
 -- what the table's answers say of a client
 pub journal_is : (t : Records) (c : ℕ) → journal_of t c ≡ journal_in (client_of t c)
 unfolding journal_of
-journal_is t c = ap option_flatten (asked_mapped (λ x. x.journal) t.clients c) ∙ by (client_of t c)
+journal_is t c = ap option_flatten (asked_as (λ x. x.journal) t.clients c) ∙ by (client_of t c)
   where
-    by : (o : Option ClientRecord) → option_flatten (mapped (λ (x : ClientRecord). x.journal) o) ≡ journal_in o
+    by : (o : Option ClientRecord) → option_flatten (option_map (λ (x : ClientRecord). x.journal) o) ≡ journal_in o
     by None = refl
     by (Some x) = refl
 
 pub record_is : (t : Records) (c i : ℕ) → record_of t c i ≡ get_or (cells_in (client_of t c)) i new_cell
 unfolding cell_of
-record_is t c i = ap (λ o. unwrap_or (option_flatten o) new_cell) (asked_mapped (λ x. slice_get x.cells i) t.clients c) ∙ by (client_of t c)
+record_is t c i = ap (λ o. unwrap_or (option_flatten o) new_cell) (asked_as (λ x. slice_get x.cells i) t.clients c) ∙ by (client_of t c)
   where
-    by : (o : Option ClientRecord) → unwrap_or (option_flatten (mapped (λ (x : ClientRecord). slice_get x.cells i) o)) new_cell ≡ get_or (cells_in o) i new_cell
+    by : (o : Option ClientRecord) → unwrap_or (option_flatten (option_map (λ (x : ClientRecord). slice_get x.cells i) o)) new_cell ≡ get_or (cells_in o) i new_cell
     by None = refl
     by (Some x) = unwrap_or-slice_get x.cells i new_cell
 
 pub cell_known : (t : Records) (c i : ℕ) (r : CellRecord) → cell_of t c i ≡ Some r → (get_or (cells_in (client_of t c)) i new_cell ≡ r) × (i < length (cells_in (client_of t c)))
 unfolding cell_of
-cell_known t c i r e = by (client_of t c) (sym (ap option_flatten (asked_mapped (λ x. slice_get x.cells i) t.clients c)) ∙ e)
+cell_known t c i r e = by (client_of t c) (sym (ap option_flatten (asked_as (λ x. slice_get x.cells i) t.clients c)) ∙ e)
   where
-    by : (o : Option ClientRecord) → option_flatten (mapped (λ (x : ClientRecord). slice_get x.cells i) o) ≡ Some r → (get_or (cells_in o) i new_cell ≡ r) × (i < length (cells_in o))
+    by : (o : Option ClientRecord) → option_flatten (option_map (λ (x : ClientRecord). slice_get x.cells i) o) ≡ Some r → (get_or (cells_in o) i new_cell ≡ r) × (i < length (cells_in o))
     by None q = cc
     by (Some x) q = (get_or_from_slice_get x.cells i r new_cell q, slice_get_within x.cells i r q)
 
 pub flush_known : (t : Records) (c i n : ℕ) → flushing t c i n ≡ true → names (journal_in (client_of t c)) i ≡ true
 unfolding flushing
-flush_known t c i n e = by (client_of t c) (sym (ap (λ o. unwrap_or o false) (asked_mapped (λ x. flush_is x i n) t.clients c)) ∙ e)
+flush_known t c i n e = by (client_of t c) (sym (ap (λ o. unwrap_or o false) (asked_as (λ x. flush_is x i n) t.clients c)) ∙ e)
   where
-    by : (o : Option ClientRecord) → unwrap_or (mapped (λ (x : ClientRecord). flush_is x i n) o) false ≡ true → names (journal_in o) i ≡ true
+    by : (o : Option ClientRecord) → unwrap_or (option_map (λ (x : ClientRecord). flush_is x i n) o) false ≡ true → names (journal_in o) i ≡ true
     by None q = cc
     by (Some x) q = (and_parts _ _ q).0

@@ -1,6 +1,6 @@
 -- Each call keeps the invariant, with the book fed, and an accepted read gives the last write.
 use Rattle.std.proofs.Common.{◌≡◌, ℕ, zero, suc, ◌+◌, ◌<◌, Bool, true, false, cond, ◌||◌, eqb, List, [], ◌∷◌, map, length, get_or, set, Some, None, Ok, Err, Option, Result, sym, refl, ap, ◌∙◌, subst, add-one, arith}
-use Rattle.std.specs.Option.{is_none}
+use Rattle.std.specs.Option.{is_none, option_map}
 use Rattle.std.proofs.lemmas.List.{get_or-set_same, get_or-set_other, length-set, length-map}
 use Rattle.std.proofs.lemmas.Bool.{cond_both, eqb-true, eq-eqb, ne_eqb, and_parts, or_parts, not-true}
 use Rattle.store.specs.declared.life.Life.{Life}
@@ -27,7 +27,7 @@ use Rattle.records.specs.declared.fault.SiteFault.TheVariants as fault
 use Rattle.records.specs.declared.fault.StoreName.{StoreName}
 use Rattle.records.specs.declared.fault.StoreName.TheVariants.{Local, Marks, Disk}
 use Rattle.rules.proofs.Ways.{followed, by_disk_read, by_mark_read, by_disk_write, by_mark_write, entry, equal_or_not, somebody, nobody_else, unnamed, unheld, was_yes, admitted_says, opening_says, beginning_says, committing_says, closing_says, holding_says}
-use Rattle.rules.proofs.Sight.{Client, View, with_client, with_cells, held_by, store_of, client_of, cells_in, journal_in, mapped, seen, view, Relocal, same_locals, view_both, view_locals, by_local_read, by_local_write, journal_is, record_is, cell_known, flush_known}
+use Rattle.rules.proofs.Sight.{Client, View, with_client, with_cells, held_by, store_of, client_of, cells_in, journal_in, seen, view, Relocal, same_locals, view_both, view_locals, by_local_read, by_local_write, journal_is, record_is, cell_known, flush_known}
 use Rattle.rules.proofs.Sight as sight
 use Rattle.rules.proofs.Invariant.{Inv, Of, Knows, Filed, mark_at, disk_at, changed, moved, lives, remarked, rewritten, write_own, book_other, check_own, fetch_own, begin_own, journal_else, sent_own, sent_serves, give_own, restart_own, drop_own, open_own, open_other, open_serves, close_own, close_other, close_serves, read_sure, read_fresh, read_disk, unsent_serves}
 
@@ -84,7 +84,7 @@ module _ {V : Type 0} (blank : V) where
 
   -- one cell's record was changed to r, and the store to b
   put_cell : (b : Stored V) (o : Option ClientRecord) (k : ℕ) (r : CellRecord)
-      → seen b (mapped (λ c. records.with_cells c (set c.cells k r)) o) ≡ record { local = b; cells = set (cells_in o) k r; journal = journal_in o }
+      → seen b (option_map (λ c. records.with_cells c (set c.cells k r)) o) ≡ record { local = b; cells = set (cells_in o) k r; journal = journal_in o }
   put_cell b None k r = refl
   put_cell b (Some x) k r = refl
 
@@ -130,7 +130,7 @@ module _ {V : Type 0} (blank : V) where
       subst (λ (r : CellRecord). Knows blank s.table.size (view s) (b k) k c ((view s).clients c) r (mark_at (view s) k) (disk_at blank s.table.size (view s) k)) e (i.keeps k c h)
 
   begun_client : (b : Stored V) (o : Option ClientRecord) (k : ℕ) (r : CellRecord) (n : ℕ) → k < length (cells_in o)
-      → seen b (mapped (λ c. records.begun_client c k r n) o) ≡ record { local = b; cells = set (cells_in o) k (dirtied false r); journal = Some k }
+      → seen b (option_map (λ c. records.begun_client c k r n) o) ≡ record { local = b; cells = set (cells_in o) k (dirtied false r); journal = Some k }
   begun_client b None k r n h = absurd (omega arith)
   begun_client b (Some x) k r n h = refl
 
@@ -170,7 +170,7 @@ module _ {V : Type 0} (blank : V) where
         right = tt;
       }
 
-  emptied_client : (b : Stored V) (o : Option ClientRecord) → seen b (mapped (λ c. records.with_journal c None) o) ≡ record { local = b; cells = cells_in o; journal = None }
+  emptied_client : (b : Stored V) (o : Option ClientRecord) → seen b (option_map (λ c. records.with_journal c None) o) ≡ record { local = b; cells = cells_in o; journal = None }
   emptied_client b None = refl
   emptied_client b (Some x) = refl
 
@@ -218,7 +218,7 @@ module _ {V : Type 0} (blank : V) where
       }
 
   given_client : (b : Stored V) (o : Option ClientRecord) (k : ℕ)
-      → seen b (mapped (λ c. records.given_up_client c k) o)
+      → seen b (option_map (λ c. records.given_up_client c k) o)
       ≡ record { local = b; cells = set (cells_in o) k (dirtied true (get_or (cells_in o) k new_cell)); journal = None }
   given_client b None k = refl
   given_client b (Some x) k = refl
@@ -245,7 +245,7 @@ module _ {V : Type 0} (blank : V) where
       }
 
   unchecked_client : (b : Stored V) (o : Option ClientRecord)
-      → seen b (mapped (λ c. records.with_cells c (map unchecked_cell c.cells)) o) ≡ record { local = b; cells = map unchecked_cell (cells_in o); journal = journal_in o }
+      → seen b (option_map (λ c. records.with_cells c (map unchecked_cell c.cells)) o) ≡ record { local = b; cells = map unchecked_cell (cells_in o); journal = journal_in o }
   unchecked_client b None = refl
   unchecked_client b (Some x) = refl
 
@@ -477,7 +477,7 @@ module _ {V : Type 0} (blank : V) where
       ∙ ap (λ (d : Bool). record { kept = (get_or xs k new_cell).kept; checked = false; dirty = d }) (or_no (get_or xs k new_cell).dirty)))
 
   restarted_client : (b : Stored V) (o : Option ClientRecord)
-      → seen b (mapped (λ c. record { cells = map unchecked_cell (records.soiled c.cells c.journal); journal = None; turn = c.turn; note = None }) o)
+      → seen b (option_map (λ c. record { cells = map unchecked_cell (records.soiled c.cells c.journal); journal = None; turn = c.turn; note = None }) o)
       ≡ record { local = b; cells = map unchecked_cell (records.soiled (cells_in o) (journal_in o)); journal = None }
   restarted_client b None = refl
   restarted_client b (Some x) = refl
@@ -490,14 +490,14 @@ module _ {V : Type 0} (blank : V) where
       by None e = (
         (store_of ls c).life,
         record {
-          own = ap (λ (xs : List (Stored V)). store_of xs c) (sight.changed_same (after_renew n) ls c (ap (mapped (after_renew n)) e ∙ sym e));
+          own = ap (λ (xs : List (Stored V)). store_of xs c) (sight.changed_same (after_renew n) ls c (ap (option_map (after_renew n)) e ∙ sym e));
           else = λ c' z. ap sight.or_no_store (sight.changed_else (after_renew n) ls c c' z);
         },
       )
       by (Some b) e = (
         (after_renew n (store_of ls c)).life,
         record {
-          own = ap sight.or_no_store (sight.changed_at (after_renew n) ls c ∙ ap (mapped (after_renew n)) e) ∙ sym (ap (after_renew n) (ap sight.or_no_store e));
+          own = ap sight.or_no_store (sight.changed_at (after_renew n) ls c ∙ ap (option_map (after_renew n)) e) ∙ sym (ap (after_renew n) (ap sight.or_no_store e));
           else = λ c' z. ap sight.or_no_store (sight.changed_else (after_renew n) ls c c' z);
         },
       )
@@ -519,7 +519,7 @@ module _ {V : Type 0} (blank : V) where
         right = tt;
       }
 
-  noted_client : (b : Stored V) (o : Option ClientRecord) (n : Option Flush) → seen b (mapped (λ c. records.with_note c n) o) ≡ record { local = b; cells = cells_in o; journal = journal_in o }
+  noted_client : (b : Stored V) (o : Option ClientRecord) (n : Option Flush) → seen b (option_map (λ c. records.with_note c n) o) ≡ record { local = b; cells = cells_in o; journal = journal_in o }
   noted_client b None n = refl
   noted_client b (Some x) n = refl
 
