@@ -1,5 +1,5 @@
 -- A new fit site is sound, and stays so whatever is done to it.
-use Rattle.std.proofs.Common.{◌≡◌, ℕ, zero, suc, ◌+◌, ◌≤◌, Bool, true, false, cond, ◌&&◌, eqb, ltb, leb, List, [], ◌∷◌, map, length, replicate, Some, None, Option, sym, refl, ap, ◌∙◌, subst}
+use Rattle.std.proofs.Common.{◌≡◌, ℕ, zero, suc, ◌+◌, ◌≤◌, true, List, [], ◌∷◌, map, length, replicate, None, Option, sym, refl, ap, ◌∙◌, subst}
 use Rattle.std.proofs.lemmas.List.{length-replicate}
 use Rattle.std.proofs.lemmas.Bool.{leb-true, eqb-true, and_parts}
 use Rattle.store.specs.Lengths.{all_long}
@@ -8,14 +8,13 @@ use Rattle.records.specs.Cells.{new_cell}
 use Rattle.records.specs.Clients.{asked}
 use Rattle.records.specs.Records.{new_client, new_clients}
 use Rattle.rules.specs.Site.{State}
-use Rattle.rules.specs.Making.{Looked, looked, look_from, within, surveyed, Start, made}
+use Rattle.rules.specs.Making.{Looked, within, surveyed, Start, made}
 use Rattle.rules.specs.Replies.{Call, called}
 use Rattle.rules.specs.History.{after}
 use Rattle.rules.specs.Claim.{Fit, Shaped, KeepsShape}
 use Rattle.records.specs.declared.fault.Unfit.{Unfit}
-use Rattle.records.specs.declared.fault.Unfit.TheVariants.{DiskSize, MarksSize, ClientCount, LocalSize}
 use Rattle.rules.proofs.Plays.{calls, calls_after, acts_do}
-use Rattle.rules.proofs.Starts.{look_says, replicated}
+use Rattle.rules.proofs.Starts.{look_says, replicated, survey_finds}
 use Rattle.rules.proofs.Shapes.{Sound, ProperAt, note_own, journal_inside, cells_count, records_count}
 use Rattle.rules.proofs.Refusals.{all_end}
 use Rattle.rules.proofs.Sizes.{AsMany, calls_kept}
@@ -28,24 +27,10 @@ record Measured {V : Type 0} (d : Stored V) (ms : Stored ℕ) (ls : List (Stored
   pub one_more : all_long (length d.cells + 1) ls ≡ true
   pub marks_same : o.marks.cells ≡ ms.cells
 
-never : {P : Type 0} (u : Unfit) → ◌≡◌ {A = Option Unfit} (Some u) None → P
-never u e = cc
-
 survey_says : {V : Type 0} (d : Stored V) (ms : Stored ℕ) (ls : List (Stored V)) (n : ℕ) → (surveyed d ms ls n).first ≡ None → Measured d ms ls (surveyed d ms ls n)
-unfolding surveyed
-survey_says {V} d ms ls n =
-    by (ltb 0 (length d.cells) && leb (length d.cells) 1024) (eqb (length ms.cells) (length d.cells)) (ltb 0 (length ls) && leb (length ls) 8) (all_long (length d.cells + 1) ls) refl refl refl refl
-  where
-    by : (a b c e : Bool) → (ltb 0 (length d.cells) && leb (length d.cells) 1024) ≡ a → eqb (length ms.cells) (length d.cells) ≡ b → (ltb 0 (length ls) && leb (length ls) 8) ≡ c
-        → all_long (length d.cells + 1) ls ≡ e
-        → (cond a (cond b (cond c (cond e (look_from (length d.cells) 0 n ms) (looked (Some LocalSize) ms)) (looked (Some ClientCount) ms)) (looked (Some MarksSize) ms)) (looked (Some DiskSize) ms)).first ≡ None
-        → Measured d ms ls (cond a (cond b (cond c (cond e (look_from (length d.cells) 0 n ms) (looked (Some LocalSize) ms)) (looked (Some ClientCount) ms)) (looked (Some MarksSize) ms)) (looked (Some DiskSize) ms))
-    by false b c e p q r s f = never DiskSize f
-    by true false c e p q r s f = never MarksSize f
-    by true true false e p q r s f = never ClientCount f
-    by true true true false p q r s f = never LocalSize f
-    by true true true true p q r s f =
-        record { few_cells = leb-true _ _ (and_parts _ _ p).1; as_many = eqb-true _ _ q; few_clients = leb-true _ _ (and_parts _ _ r).1; one_more = s; marks_same = (look_says (length d.cells) 0 n ms).1 }
+survey_says d ms ls n =
+    survey_finds (λ o. o.first ≡ None → Measured d ms ls o) d ms ls n (λ u e. cc) λ p q r z _.
+    record { few_cells = leb-true _ _ (and_parts _ _ p).1; as_many = eqb-true _ _ q; few_clients = leb-true _ _ (and_parts _ _ r).1; one_more = z; marks_same = (look_says (length d.cells) 0 n ms).1 }
 
 all_long_says : {V : Type 0} (m : ℕ) (ls : List (Stored V)) → all_long m ls ≡ true → map cells_count ls ≡ replicate (length ls) m
 all_long_says m [] e = refl

@@ -1,5 +1,5 @@
 -- A list of acts is a list of calls: a run does its steps' calls in order, and its rows show their replies.
-use Rattle.std.proofs.Common.{◌≡◌, ℕ, suc, eqb, List, [], ◌∷◌, ◌++◌, length, get_or, set, Some, None, Ok, Err, Option, Result, unwrap_or, sym, refl, ap, ◌∙◌, add-one, arith}
+use Rattle.std.proofs.Common.{◌≡◌, ℕ, suc, eqb, List, [], ◌∷◌, ◌++◌, length, get_or, set, Some, None, Option, Result, unwrap_or, sym, refl, ap, ◌∙◌, add-one, arith}
 use Rattle.std.proofs.lemmas.Bool.{cond_both, eqb-true, and_parts}
 use Rattle.records.specs.Cells.{settled, fresh}
 use Rattle.records.specs.Records.{is_in_journal}
@@ -102,20 +102,16 @@ module _ {V : Type 0} (blank : V) where
   Shows r = (g : V) → shown r.answer (unwrap_or r.got g) ≡ r
 
   plain_shows : (i : ℕ) (r : Result (Unit {0}) SiteFault) → Shows (plain_reply i r)
-  plain_shows i (Ok x) g = refl
-  plain_shows i (Err e) g = refl
+  plain_shows i r g = grind arith
 
   open_shows : (r : Result ℕ SiteFault) → Shows (open_reply r)
-  open_shows (Ok x) g = refl
-  open_shows (Err e) g = refl
+  open_shows r g = grind arith
 
   noted_shows : (i : ℕ) (r : Result Flush SiteFault) → Shows (noted_reply i r)
-  noted_shows i (Ok x) g = refl
-  noted_shows i (Err e) g = refl
+  noted_shows i r g = grind arith
 
   swept_shows : (r : Result ℕ Stopped) → Shows (swept_reply r)
-  swept_shows (Ok n) g = refl
-  swept_shows (Err x) g = refl
+  swept_shows r g = grind arith
 
   -- an accepted read has a source
   read_shows : (s : State V) (k i : ℕ) → Shows (read_reply i (read_call s k i).answer)

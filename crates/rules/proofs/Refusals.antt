@@ -2,7 +2,7 @@
 use Rattle.std.proofs.Common.{◌≡◌, ℕ, zero, suc, ◌+◌, Bool, true, false, cond, eqb, ltb, ◌↔◌, List, map, length, get_or, set, Some, None, Ok, Err, Option, Result, sym, refl, ap, ◌∙◌, subst, arith}
 use Rattle.std.specs.Option.{is_none, ok_or}
 use Rattle.std.proofs.lemmas.List.{length-set, length-map}
-use Rattle.std.proofs.lemmas.Bool.{cond_both, eqb-false, eq-eqb, lt-ltb, le-leb}
+use Rattle.std.proofs.lemmas.Bool.{cond_both, false_from_ne_true, eqb-false, eq-eqb, lt-ltb, le-leb}
 use Rattle.store.specs.Stores.{after_renew}
 use Rattle.records.specs.Clients.{changed}
 use Rattle.records.specs.Faults.{says}
@@ -57,28 +57,22 @@ stop_num (Err x) = (says x.fault).number
 module _ (V : Type 0) where
   -- the number of a reply is that of its outcome
   open_num : (r : Result ℕ SiteFault) → (open_reply {V = V} r).answer.number ≡ num r
-  open_num (Ok x) = refl
-  open_num (Err e) = refl
+  open_num r = grind arith
 
   read_num : (i : ℕ) (r : Result (V × Source) SiteFault) → (read_reply i r).answer.number ≡ num r
-  read_num i (Ok x) = refl
-  read_num i (Err e) = refl
+  read_num i r = grind arith
 
   begin_num : (i : ℕ) (r : Result Flush SiteFault) → (begin_reply {V = V} i r).answer.number ≡ num r
-  begin_num i (Ok x) = refl
-  begin_num i (Err e) = refl
+  begin_num i r = grind arith
 
   noted_num : (i : ℕ) (r : Result Flush SiteFault) → (noted_reply {V = V} i r).answer.number ≡ num r
-  noted_num i (Ok x) = refl
-  noted_num i (Err e) = refl
+  noted_num i r = grind arith
 
   plain_num : (i : ℕ) (r : Result (Unit {0}) SiteFault) → (plain_reply {V = V} i r).answer.number ≡ num r
-  plain_num i (Ok x) = refl
-  plain_num i (Err e) = refl
+  plain_num i r = grind arith
 
   swept_num : (r : Result ℕ Stopped) → (swept_reply {V = V} r).answer.number ≡ stop_num r
-  swept_num (Ok n) = refl
-  swept_num (Err x) = refl
+  swept_num r = grind arith
 
 -- a call of a client, or of one of its cells
 abbrev about : ℕ → Option ℕ → Asking
@@ -90,11 +84,7 @@ there_true : (t : Records) (k : ℕ) → IsThere t k → there t k ≡ true
 there_true t k w = rw (lt-ltb 0 k w.0, le-leb k t.count w.1) refl
 
 not_there : (t : Records) (k : ℕ) → (IsThere t k → ⊥) → there t k ≡ false
-not_there t k w = by (there t k) refl
-  where
-    by : (b : Bool) → there t k ≡ b → b ≡ false
-    by true e = absurd (w (there_says t k e))
-    by false e = refl
+not_there t k w = false_from_ne_true (there t k) (λ e. w (there_says t k e))
 
 eight : (t : Records) (k n : ℕ) → EightIs t k n → (n ≡ 8) ↔ (IsThere t k → ⊥)
 eight t k n q = ((λ e w. true_false (sym (there_true t k w) ∙ q.0 e)), λ w. q.1 (not_there t k w))

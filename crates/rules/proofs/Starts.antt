@@ -1,5 +1,5 @@
 -- A new fit site satisfies the invariant.
-use Rattle.std.proofs.Common.{◌≡◌, ℕ, zero, suc, ◌+◌, ◌<◌, ◌≤◌, Bool, true, false, cond, ◌&&◌, eqb, ltb, leb, List, length, get_or, replicate, Some, None, Option, sym, refl, ap, ◌∙◌, arith}
+use Rattle.std.proofs.Common.{◌≡◌, ℕ, zero, suc, ◌+◌, ◌<◌, ◌≤◌, Bool, true, false, ◌&&◌, eqb, ltb, leb, List, length, get_or, replicate, Some, None, Option, sym, refl, ap, ◌∙◌, arith}
 use Rattle.std.proofs.lemmas.Bool.{cond_both, leb-true}
 use Rattle.store.specs.Lengths.{all_long}
 use Rattle.store.specs.Stores.{Stored, stored}
@@ -71,24 +71,27 @@ site_inv blank d ms ls n o h =
 abbrev Starts : {V : Type 0} → V → Stored V → List (Stored V) → ℕ → Looked → Type 0
 Starts blank d ls n o = o.first ≡ None → Inv blank (length d.cells) (view (new_site d ls n o)) (image_book blank d)
 
-never_starts : {V : Type 0} (blank : V) (d : Stored V) (ms : Stored ℕ) (ls : List (Stored V)) (n : ℕ) (u : Unfit) → Starts blank d ls n (looked (Some u) ms)
-never_starts blank d ms ls n u e = cc
-
 looked_starts : {V : Type 0} (blank : V) (d : Stored V) (ms : Stored ℕ) (ls : List (Stored V)) (n : ℕ) → Starts blank d ls n (look_from (length d.cells) 0 n ms)
 looked_starts blank d ms ls n e =
     let o = look_says (length d.cells) 0 n ms in
     site_inv blank d ms ls n (look_from (length d.cells) 0 n ms) (λ k h. rw o.1 (o.0 e k (omega arith) (omega arith)))
 
-pub new_inv : {V : Type 0} (blank : V) (d : Stored V) (ms : Stored ℕ) (ls : List (Stored V)) (n : ℕ) → Starts blank d ls n (surveyed d ms ls n)
+-- what a survey finds: one of four noes, or, past these, what the look at the marks finds
+pub survey_finds : {V : Type 0} (P : Looked → Type 0) (d : Stored V) (ms : Stored ℕ) (ls : List (Stored V)) (n : ℕ) → ((u : Unfit) → P (looked (Some u) ms))
+    → ((ltb 0 (length d.cells) && leb (length d.cells) 1024) ≡ true → eqb (length ms.cells) (length d.cells) ≡ true → (ltb 0 (length ls) && leb (length ls) 8) ≡ true
+    → all_long (length d.cells + 1) ls ≡ true → P (look_from (length d.cells) 0 n ms))
+    → P (surveyed d ms ls n)
 unfolding surveyed
-new_inv {V} blank d ms ls n =
-    by (ltb 0 (length d.cells) && leb (length d.cells) 1024) (eqb (length ms.cells) (length d.cells)) (ltb 0 (length ls) && leb (length ls) 8) (all_long (length d.cells + 1) ls)
-  where
-    by : (a b c e : Bool)
-        → Starts blank d ls n
-        (cond a (cond b (cond c (cond e (look_from (length d.cells) 0 n ms) (looked (Some LocalSize) ms)) (looked (Some ClientCount) ms)) (looked (Some MarksSize) ms)) (looked (Some DiskSize) ms))
-    by false b c e = never_starts blank d ms ls n DiskSize
-    by true false c e = never_starts blank d ms ls n MarksSize
-    by true true false e = never_starts blank d ms ls n ClientCount
-    by true true true false = never_starts blank d ms ls n LocalSize
-    by true true true true = looked_starts blank d ms ls n
+survey_finds P d ms ls n refused go =
+    cond_both (ltb 0 (length d.cells) && leb (length d.cells) 1024) _ _ P
+    (λ p.
+    cond_both (eqb (length ms.cells) (length d.cells)) _ _ P
+    (λ q.
+    cond_both (ltb 0 (length ls) && leb (length ls) 8) _ _ P
+    (λ r. cond_both (all_long (length d.cells + 1) ls) _ _ P (λ z. go p q r z) (λ _. refused LocalSize))
+    (λ _. refused ClientCount))
+    (λ _. refused MarksSize))
+    (λ _. refused DiskSize)
+
+pub new_inv : {V : Type 0} (blank : V) (d : Stored V) (ms : Stored ℕ) (ls : List (Stored V)) (n : ℕ) → Starts blank d ls n (surveyed d ms ls n)
+new_inv blank d ms ls n = survey_finds (Starts blank d ls n) d ms ls n (λ u e. cc) (λ _ _ _ _. looked_starts blank d ms ls n)

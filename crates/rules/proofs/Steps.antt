@@ -1,12 +1,14 @@
 -- Each call keeps the invariant, with the book fed, and an accepted read gives the last write.
-use Rattle.std.proofs.Common.{◌≡◌, ℕ, zero, suc, ◌+◌, ◌<◌, Bool, true, false, cond, ◌||◌, eqb, List, [], ◌∷◌, map, length, get_or, set, Some, None, Ok, Err, Option, Result, sym, refl, ap, ◌∙◌, subst, add-one, arith}
+use Rattle.std.proofs.Common.{◌≡◌, ℕ, zero, suc, ◌+◌, ◌<◌, Bool, true, false, cond, ◌||◌, eqb, List, map, length, get_or, set, Some, None, Ok, Err, Option, Result, sym, refl, ap, ◌∙◌, subst, add-one, arith, ◌≢◌}
 use Rattle.std.specs.Option.{is_none, option_map}
+use Rattle.std.proofs.Math.ListN.{get_or-map}
+use Rattle.std.proofs.lemmas.Grind.{get_or-set_at}
 use Rattle.std.proofs.lemmas.List.{get_or-set_same, get_or-set_other, length-set, length-map}
-use Rattle.std.proofs.lemmas.Bool.{cond_both, eqb-true, eq-eqb, ne_eqb, and_parts, or_parts, not-true}
+use Rattle.std.proofs.lemmas.Bool.{cond_both, eqb-true, eqb-false, eq-eqb, ne_eqb, and_parts, or_parts, not-true}
 use Rattle.store.specs.declared.life.Life.{Life}
 use Rattle.store.specs.Stores.{Stored, stored, after_renew}
 use Rattle.records.specs.Clients as clients
-use Rattle.records.specs.Faults.{says, store_number}
+use Rattle.records.specs.Faults.{says}
 use Rattle.records.specs.Cells.{new_cell, unchecked_cell, dirtied, fresh, settled, marked, written_cell, swept_cell, sweeps}
 use Rattle.records.specs.Records.{names, cell_of, is_in_journal, unsent_at, with_cell}
 use Rattle.records.specs.Questions.{admitted, opening, beginning, committing, closing}
@@ -24,36 +26,13 @@ use Rattle.records.specs.declared.records.ClientRecord.{ClientRecord}
 use Rattle.records.specs.declared.records.Flush.{Flush}
 use Rattle.records.specs.declared.fault.SiteFault.{SiteFault}
 use Rattle.records.specs.declared.fault.SiteFault.TheVariants as fault
-use Rattle.records.specs.declared.fault.StoreName.{StoreName}
-use Rattle.records.specs.declared.fault.StoreName.TheVariants.{Local, Marks, Disk}
 use Rattle.rules.proofs.Ways.{followed, by_disk_read, by_mark_read, by_disk_write, by_mark_write, entry, equal_or_not, somebody, nobody_else, unnamed, unheld, was_yes, admitted_says, opening_says, beginning_says, committing_says, closing_says, holding_says}
 use Rattle.rules.proofs.Sight.{Client, View, with_client, with_cells, held_by, store_of, client_of, cells_in, journal_in, seen, view, Relocal, same_locals, view_both, view_locals, by_local_read, by_local_write, journal_is, record_is, cell_known, flush_known}
 use Rattle.rules.proofs.Sight as sight
 use Rattle.rules.proofs.Invariant.{Inv, Of, Knows, Filed, mark_at, disk_at, changed, moved, lives, remarked, rewritten, write_own, book_other, check_own, fetch_own, begin_own, journal_else, sent_own, sent_serves, give_own, restart_own, drop_own, open_own, open_other, open_serves, close_own, close_other, close_serves, read_sure, read_fresh, read_disk, unsent_serves}
 
-pub nonzero : (n : ℕ) → eqb n 0 ≡ false → n ≡ 0 → ⊥
-nonzero n e z = let y : ◌≡◌ {A = ℕ} 0 1 = grind arith in omega arith
-
 pub fault_nonzero : (e : SiteFault) → eqb (says e).number 0 ≡ false
-fault_nonzero fault.Unfit = refl
-fault_nonzero fault.NoClient = refl
-fault_nonzero fault.Held = refl
-fault_nonzero fault.SessionsUsed = refl
-fault_nonzero fault.NotHolding = refl
-fault_nonzero fault.NoCell = refl
-fault_nonzero fault.JournalUsed = refl
-fault_nonzero fault.NotDirty = refl
-fault_nonzero fault.TurnsUsed = refl
-fault_nonzero fault.NoFlush = refl
-fault_nonzero (fault.Unsent i) = refl
-fault_nonzero fault.RowsUnequal = refl
-fault_nonzero fault.NoCall = refl
-fault_nonzero (fault.Store f) = by f.store
-  where
-    by : (w : StoreName) → eqb (store_number w) 0 ≡ false
-    by Local = refl
-    by Marks = refl
-    by Disk = refl
+fault_nonzero e = grind arith
 
 module _ {V : Type 0} (blank : V) where
   -- after a call that means q to the book b, at a site of m cells
@@ -63,7 +42,7 @@ module _ {V : Type 0} (blank : V) where
     pub right : ReadRight b q o.reply
 
   right_refused : (b : Book V) (q : Deed V) (r : Reply V) → eqb r.answer.number 0 ≡ false → ReadRight b q r
-  right_refused b (reads k) r e = λ z. absurd (nonzero r.answer.number e z)
+  right_refused b (reads k) r e = λ z. absurd (eqb-false r.answer.number 0 e z)
   right_refused b (writes k v) r e = tt
   right_refused b (begins k) r e = tt
   right_refused b (sends k) r e = tt
@@ -249,11 +228,6 @@ module _ {V : Type 0} (blank : V) where
   unchecked_client b None = refl
   unchecked_client b (Some x) = refl
 
-  get_or_unchecked : (xs : List CellRecord) (k : ℕ) → get_or (map unchecked_cell xs) k new_cell ≡ unchecked_cell (get_or xs k new_cell)
-  get_or_unchecked [] k = refl
-  get_or_unchecked (x ∷ xs) zero = refl
-  get_or_unchecked (x ∷ xs) (suc k) = get_or_unchecked xs k
-
   filed_unchecked : (s : State V) (b : Book V) (c : ℕ) → Kept s b → Filed blank s.table.size (record { local = store_of s.locals c; cells = map unchecked_cell (cs s c); journal = js s c })
   filed_unchecked s b c i k e = rw (length-map (cs s c) unchecked_cell) (i.filed c k e)
 
@@ -279,7 +253,7 @@ module _ {V : Type 0} (blank : V) where
               keeps = λ k c' h.
                   entry (λ x. Of blank m v₁ (b k) k c' x) (view s).clients c cl c'
                   (λ e. subst (λ (j : ℕ). Of blank m v₁ (b k) k j cl) (sym e)
-                  (rw (get_or_unchecked (cs s c) k, eq-eqb c c refl) (open_own (i.keeps k c h) (unnamed s.table.holder u c) ((i.serves k h).idle (unheld s.table.holder u)))))
+                  (rw (get_or-map unchecked_cell (cs s c) k new_cell, eq-eqb c c refl) (open_own (i.keeps k c h) (unnamed s.table.holder u c) ((i.serves k h).idle (unheld s.table.holder u)))))
                   (λ ne. rw (ne_eqb c c' (λ e. ne (sym e))) (open_other (i.keeps k c' h) (unnamed s.table.holder u c')));
               filed = λ c'. entry (Filed blank m) (view s).clients c cl c' (λ _. filed_unchecked s b c i) (λ _. i.filed c');
             });
@@ -311,7 +285,7 @@ module _ {V : Type 0} (blank : V) where
               serves = λ k h. close_serves (i.keeps k c h) (i.serves k h) mine (clean k h).0 (clean k h).1;
               keeps = λ k c' h.
                   entry (λ x. Of blank m v₁ (b k) k c' x) (view s).clients c cl c'
-                  (λ e. rw (get_or_unchecked (cs s c) k) (close_own (i.keeps k c h) (clean k h).0 (clean k h).1))
+                  (λ e. rw (get_or-map unchecked_cell (cs s c) k new_cell) (close_own (i.keeps k c h) (clean k h).0 (clean k h).1))
                   (λ n. close_other (i.keeps k c' h) (nobody_else s.table.holder c c' mine n));
               filed = λ c'. entry (Filed blank m) (view s).clients c cl c' (λ _. filed_unchecked s b c i) (λ _. i.filed c');
             });
@@ -449,32 +423,14 @@ module _ {V : Type 0} (blank : V) where
   abbrev revived : CellRecord → Bool → CellRecord
   revived r j = record { kept = r.kept; checked = false; dirty = r.dirty || j }
 
-  or_no : (b : Bool) → b ≡ (b || false)
-  or_no true = refl
-  or_no false = refl
-
-  or_yes : (b : Bool) → true ≡ (b || true)
-  or_yes true = refl
-  or_yes false = refl
-
   get_or_soiled : (xs : List CellRecord) (j : Option ℕ) (k : ℕ) → (names j k ≡ true → k < length xs)
       → get_or (map unchecked_cell (records.soiled xs j)) k new_cell ≡ revived (get_or xs k new_cell) (names j k)
-  get_or_soiled xs None k f =
-      get_or_unchecked xs k ∙ ap (λ (d : Bool). record { kept = (get_or xs k new_cell).kept; checked = false; dirty = d }) (or_no (get_or xs k new_cell).dirty)
-  get_or_soiled xs (Some j) k f =
-      let r : CellRecord = dirtied true (get_or xs j new_cell) in
-      get_or_unchecked (set xs j r) k
-      ∙ equal_or_not (unchecked_cell (get_or (set xs j r) k new_cell) ≡ revived (get_or xs k new_cell) (eqb j k)) k j
-      (λ e.
-      let t : eqb j k ≡ true = eq-eqb j k (sym e) in
-      subst (λ (b : Bool). unchecked_cell (get_or (set xs j r) k new_cell) ≡ revived (get_or xs k new_cell) b) (sym t)
-      (subst (λ (i : ℕ). unchecked_cell (get_or (set xs i (dirtied true (get_or xs i new_cell))) k new_cell) ≡ revived (get_or xs k new_cell) true) e
-      (ap unchecked_cell (get_or-set_same xs k (dirtied true (get_or xs k new_cell)) new_cell (f t))
-      ∙ ap (λ (d : Bool). record { kept = (get_or xs k new_cell).kept; checked = false; dirty = d }) (or_yes (get_or xs k new_cell).dirty))))
-      (λ n.
-      subst (λ (b : Bool). unchecked_cell (get_or (set xs j r) k new_cell) ≡ revived (get_or xs k new_cell) b) (sym (ne_eqb j k (λ e. n (sym e))))
-      (ap unchecked_cell (get_or-set_other xs j k r new_cell n)
-      ∙ ap (λ (d : Bool). record { kept = (get_or xs k new_cell).kept; checked = false; dirty = d }) (or_no (get_or xs k new_cell).dirty)))
+  get_or_soiled xs None k f = get_or-map unchecked_cell xs k new_cell ∙ grind arith
+  get_or_soiled xs (Some j) k f = get_or-map unchecked_cell (records.soiled xs (Some j)) k new_cell ∙ by (eqb j k) refl
+    where
+      by : (t : Bool) → eqb j k ≡ t → unchecked_cell (get_or (records.soiled xs (Some j)) k new_cell) ≡ revived (get_or xs k new_cell) t
+      by true t = let l : k < length xs = f t in let e : j ≡ k = eqb-true j k t in grind (arith, get_or-set_at)
+      by false t = let n : k ≢ j = λ e. eqb-false j k t (sym e) in grind (arith, get_or-set_other)
 
   restarted_client : (b : Stored V) (o : Option ClientRecord)
       → seen b (option_map (λ c. record { cells = map unchecked_cell (records.soiled c.cells c.journal); journal = None; turn = c.turn; note = None }) o)
