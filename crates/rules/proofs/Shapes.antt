@@ -147,22 +147,23 @@ module _ {V : Type 0} where
       moved (Some c) q = w c q
 
 module _ {V : Type 0} (s : State V) (k : ℕ) where
-  -- what a proper record says of the note and the journal
+  -- what a proper record says of its field f, if the field is there
+  proper_says : {X : Type 0} (f : ClientRecord → Option X) (P : X → Type 0) → Sound s → ((c : ClientRecord) → Proper s.table.size k c → (x : X) → f c ≡ Some x → P x)
+      → (x : X) → option_flatten (asked f s.table.clients k) ≡ Some x → P x
+  proper_says {X} f P h g x e = by (asked (λ c. c) s.table.clients k) (h.proper k) (sym (ap option_flatten (asked_as f s.table.clients k)) ∙ e)
+    where
+      by : (o : Option ClientRecord) → ProperAt s.table.size k o → option_flatten (option_map f o) ≡ Some x → P x
+      by None w q = cc
+      by (Some c) w q = g c w x q
+
+  -- the note and the journal
   pub note_own : (n : Flush) → Sound s → note_of s.table k ≡ Some n → n.client ≡ k
   unfolding note_of
-  note_own n h e = by (asked (λ c. c) s.table.clients k) (h.proper k) (sym (ap option_flatten (asked_as (λ c. c.note) s.table.clients k)) ∙ e)
-    where
-      by : (o : Option ClientRecord) → ProperAt s.table.size k o → option_flatten (option_map (λ (c : ClientRecord). c.note) o) ≡ Some n → n.client ≡ k
-      by None w q = cc
-      by (Some c) w q = subst (Own k) q w.0
+  note_own n h e = proper_says (λ c. c.note) (λ n. n.client ≡ k) h (λ c w n q. subst (Own k) q w.0) n e
 
   pub journal_inside : (i : ℕ) → Sound s → journal_of s.table k ≡ Some i → i < s.table.size
   unfolding journal_of
-  journal_inside i h e = by (asked (λ c. c) s.table.clients k) (h.proper k) (sym (ap option_flatten (asked_as (λ c. c.journal) s.table.clients k)) ∙ e)
-    where
-      by : (o : Option ClientRecord) → ProperAt s.table.size k o → option_flatten (option_map (λ (c : ClientRecord). c.journal) o) ≡ Some i → i < s.table.size
-      by None w q = cc
-      by (Some c) w q = subst (Inside s.table.size) q w.1
+  journal_inside i h e = proper_says (λ c. c.journal) (λ i. i < s.table.size) h (λ c w i q. subst (Inside s.table.size) q w.1) i e
 
 pub zero_clear : Clear 0
 zero_clear = record { eight = λ e. omega arith; twelve = λ e. omega arith }
@@ -236,6 +237,10 @@ pub clear_exact : (t : Records) (k : ℕ) (c : Option ℕ) (n : ℕ) → Clear n
 clear_exact t k None n h th w = (((λ e. absurd (h.eight e)), λ e. true_false (sym th ∙ e)), h.twelve)
 clear_exact t k (Some i) n h th w = (((λ e. absurd (h.eight e)), λ e. true_false (sym th ∙ e)), ((λ e. absurd (h.twelve e)), λ _ x y. absurd (w i refl x y)))
 
+and_then_then : {X Y Z : Type 0} (r : Result X SiteFault) (f : X → Result Y SiteFault) (g : Y → Result Z SiteFault) → and_then (and_then r f) g ≡ and_then r (λ x. and_then (f x) g)
+and_then_then (Ok x) f g = refl
+and_then_then (Err e) f g = refl
+
 -- questions 7 and 8, and then g
 pub question : {Y : Type 0} (t : Records) (k : ℕ) (c : Option ℕ) (g : Result Y SiteFault) → t.unfit ≡ None → (there t k ≡ true → Exact t k c (num g)) → Exact t k c (num (and_then (present t k) (λ _. g)))
 question {Y} t k c g u h =
@@ -253,13 +258,9 @@ question {Y} t k c g u h =
 pub held : {Y : Type 0} (t : Records) (k : ℕ) (c : Option ℕ) (g : Result Y SiteFault) → t.unfit ≡ None → (there t k ≡ true → names t.holder k ≡ true → Exact t k c (num g))
     → Exact t k c (num (and_then (holding t k) (λ _. g)))
 held {Y} t k c g u h =
-    subst (λ (r : Result Y SiteFault). Exact t k c (num r)) (sym (regroup (present t k) (λ _. asks (names t.holder k) fault.NotHolding) (λ _. g)))
+    subst (λ (r : Result Y SiteFault). Exact t k c (num r)) (sym (and_then_then (present t k) _ _))
     (question t k c (and_then (asks (names t.holder k) fault.NotHolding) (λ _. g)) u (λ th. by (names t.holder k) refl th))
   where
-    regroup : {A B C : Type 0} (r : Result A SiteFault) (f : A → Result B SiteFault) (f' : B → Result C SiteFault) → and_then (and_then r f) f' ≡ and_then r (λ x. and_then (f x) f')
-    regroup (Ok x) f f' = refl
-    regroup (Err e) f f' = refl
-
     by : (b : Bool) → names t.holder k ≡ b → there t k ≡ true → Exact t k c (num (and_then (asks b fault.NotHolding) (λ _. g)))
     by true e th = h th e
     by false e th = clear_exact t k c 11 (record { eight = λ z. omega arith; twelve = λ z. omega arith }) th (λ i _ x _. true_false (sym x ∙ e))
@@ -283,13 +284,9 @@ module _ {V : Type 0} where
   pub celled : {Y : Type 0} (s : State V) (k i : ℕ) (g : CellRecord → Result Y SiteFault) → Sound s → ((r : CellRecord) → Clear (num (g r)))
       → Exact s.table k (Some i) (num (and_then (admitted s.table k i) g))
   celled {Y} s k i g h cl =
-      subst (λ (r : Result Y SiteFault). Exact s.table k (Some i) (num r)) (sym (regroup (holding s.table k)))
+      subst (λ (r : Result Y SiteFault). Exact s.table k (Some i) (num r)) (sym (and_then_then (holding s.table k) _ g))
       (held s.table k (Some i) _ h.fit (λ th hd. by (ltb i s.table.size) refl th))
     where
-      regroup : (r : Result (Unit {0}) SiteFault) → and_then (and_then r (λ _. cell_asks s k i (ltb i s.table.size))) g ≡ and_then r (λ _. and_then (cell_asks s k i (ltb i s.table.size)) g)
-      regroup (Ok x) = refl
-      regroup (Err e) = refl
-
       by : (b : Bool) → ltb i s.table.size ≡ b → there s.table k ≡ true → Exact s.table k (Some i) (num (and_then (cell_asks s k i b) g))
       by true e th =
           let l : i < s.table.size = ltb-true _ _ e in

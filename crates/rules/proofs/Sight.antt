@@ -1,5 +1,5 @@
 -- What the invariant looks at: each client's store, cells and journal, by client number.
-use Rattle.std.proofs.Common.{◌≡◌, ℕ, zero, suc, ◌<◌, true, false, List, [], ◌∷◌, length, get_or, set, Some, None, Err, Option, Result, unwrap_or, sym, refl, ap, ◌∙◌, subst}
+use Rattle.std.proofs.Common.{◌≡◌, ℕ, zero, suc, ◌<◌, true, false, List, [], ◌∷◌, length, get_or, set, Some, None, Ok, Err, Option, Result, unwrap_or, sym, refl, ap, ◌∙◌, subst}
 use Rattle.std.specs.List.{slice_get}
 use Rattle.std.specs.Option.{option_flatten, option_map}
 use Rattle.store.specs.declared.life.Life.{Life}
@@ -15,6 +15,7 @@ use Rattle.records.specs.declared.records.ClientRecord.{ClientRecord}
 use Rattle.records.specs.declared.fault.SiteFault.{SiteFault}
 use Rattle.records.specs.declared.fault.SiteFault.TheVariants.{NoClient}
 use Rattle.records.specs.declared.fault.StoreName.TheVariants.{Local}
+use Rattle.records.specs.declared.fault.Operation.{Operation}
 use Rattle.records.specs.declared.fault.Operation.TheVariants.{Read, Write}
 use Rattle.std.proofs.lemmas.Bool.{and_parts}
 use Rattle.std.proofs.lemmas.Option.{get_or_from_slice_get, slice_get_within, unwrap_or-slice_get}
@@ -138,12 +139,6 @@ view_locals {V} s ls c b r = λ i. record { disk = s.disk; marks = s.marks; sess
         (λ q. subst (λ (j : ℕ). seen (store_of ls j) (client_of s.table j) ≡ with_local ((view s).clients c) b) (sym q) (ap (λ (x : Stored V). seen x (client_of s.table c)) r.own))
         (λ n. ap (λ (x : Stored V). seen x (client_of s.table c')) (r.else c' n))
 
-abbrev pub read_on : {V : Type 0} → ℕ → Stored V → Stored V
-read_on i b = after_read b i
-
-abbrev pub written_on : {V : Type 0} → ℕ → V → Stored V → Stored V
-written_on i v b = after_write b i v
-
 module _ {V Y : Type 0} (P : Outcome V Y → Type 0) (s : State V) (c : ℕ) where
   relocal : (f : Stored V → Stored V) (b b' : Stored V) → asked (λ x. x) s.locals c ≡ Some b → f b ≡ b' → Relocal s.locals c b' (changed f s.locals c)
   relocal f b b' e q =
@@ -152,42 +147,37 @@ module _ {V Y : Type 0} (P : Outcome V Y → Type 0) (s : State V) (c : ℕ) whe
         else = λ c' n. ap or_no_store (changed_else f s.locals c c' n);
       }
 
+  -- an operation of client c's local store that leaves other cells and another life, or the store as it was
+  by_local : {X : Type 0} (i : ℕ) (o : Operation) (does : Stored V → Stored V) (says : Stored V → Result X Fault) (cells : Stored V → List V) (x : Stored V → X)
+      → ((Q : Stored V → Result X Fault → Type 0) (b : Stored V) → ((e : Fault) → Q b (Err e)) → (i < length b.cells → (l : Life) → Q (stored (cells b) l) (Ok (x b))) → Q (does b) (says b))
+      → (f : State V → X → Outcome V Y) → ((e : SiteFault) → P (outcome s (Err e)))
+      → (i < length (store_of s.locals c).cells → (l : Life) (ls : List (Stored V)) → Relocal s.locals c (stored (cells (store_of s.locals c)) l) ls
+      → P (f (with_locals s ls) (x (store_of s.locals c))))
+      → P (next (with_locals s (changed does s.locals c)) (told_local i o (asked says s.locals c)) f)
+  by_local {X} i o does says cells x each f bad go =
+      subst (λ (r : Option (Result X Fault)). P (next (with_locals s (changed does s.locals c)) (told_local i o r) f)) (sym (asked_as says s.locals c)) (by (asked (λ x. x) s.locals c) refl)
+    where
+      by : (b : Option (Stored V)) → asked (λ x. x) s.locals c ≡ b → P (next (with_locals s (changed does s.locals c)) (told_local i o (option_map says b)) f)
+      by None e = subst (λ (xs : List (Stored V)). P (outcome (with_locals s xs) (Err NoClient))) (sym (changed_same does s.locals c (ap (option_map does) e ∙ sym e))) (bad NoClient)
+      by (Some b) e =
+          each (λ b' r. does b ≡ b' → P (next (with_locals s (changed does s.locals c)) (told Local i o r) f)) b
+          (λ y q. subst (λ (xs : List (Stored V)). P (outcome (with_locals s xs) (told Local i o (Err y)))) (sym (changed_same does s.locals c (ap (option_map does) e ∙ (ap Some q ∙ sym e)))) (bad _))
+          (λ h l q.
+          subst (λ (z : Stored V). i < length z.cells → Relocal s.locals c (stored (cells z) l) (changed does s.locals c) → P (f (with_locals s (changed does s.locals c)) (x z)))
+          (ap or_no_store e) (λ w. go w l (changed does s.locals c)) h (relocal does b (stored (cells b) l) e q))
+          refl
+
   pub by_local_read : (i : ℕ) (blank : V) (f : State V → V → Outcome V Y) → ((e : SiteFault) → P (outcome s (Err e)))
       → ((l : Life) (ls : List (Stored V)) → Relocal s.locals c (stored (store_of s.locals c).cells l) ls
       → P (f (with_locals s ls) (get_or (store_of s.locals c).cells i blank)))
       → P (local_read s c i then f)
   by_local_read i blank f bad go =
-      subst (λ (r : Option (Result V Fault)). P (next (with_locals s (changed (read_on i) s.locals c)) (told_local i Read r) f)) (sym (asked_as (λ b. read_answer b i) s.locals c))
-      (by (asked (λ x. x) s.locals c) refl)
-    where
-      by : (o : Option (Stored V)) → asked (λ x. x) s.locals c ≡ o
-          → P (next (with_locals s (changed (read_on i) s.locals c)) (told_local i Read (option_map (λ b. read_answer b i) o)) f)
-      by None e = subst (λ (xs : List (Stored V)). P (outcome (with_locals s xs) (Err NoClient))) (sym (changed_same (read_on i) s.locals c (ap (option_map (read_on i)) e ∙ sym e))) (bad NoClient)
-      by (Some b) e =
-          store_read (λ b' r. (read_on i) b ≡ b' → P (next (with_locals s (changed (read_on i) s.locals c)) (told Local i Read r) f)) b i blank
-          (λ x q. subst (λ (xs : List (Stored V)). P (outcome (with_locals s xs) (told Local i Read (Err x)))) (sym (changed_same (read_on i) s.locals c (ap (option_map (read_on i)) e ∙ (ap Some q ∙ sym e)))) (bad _))
-          (λ h l q.
-          subst (λ (x : Stored V). Relocal s.locals c (stored x.cells l) (changed (read_on i) s.locals c) → P (f (with_locals s (changed (read_on i) s.locals c)) (get_or x.cells i blank)))
-          (ap or_no_store e) (go l (changed (read_on i) s.locals c)) (relocal (read_on i) b (stored b.cells l) e q))
-          refl
+      by_local i Read (λ b. after_read b i) (λ b. read_answer b i) (λ b. b.cells) (λ b. get_or b.cells i blank) (λ Q b. store_read Q b i blank) f bad (λ _. go)
 
   pub by_local_write : (i : ℕ) (v : V) (f : State V → Unit {0} → Outcome V Y) → ((e : SiteFault) → P (outcome s (Err e)))
       → (i < length (store_of s.locals c).cells → (l : Life) (ls : List (Stored V)) → Relocal s.locals c (stored (set (store_of s.locals c).cells i v) l) ls → P (f (with_locals s ls) tt))
       → P (local_write s c i v then f)
-  by_local_write i v f bad go =
-      subst (λ (r : Option (Result (Unit {0}) Fault)). P (next (with_locals s (changed (written_on i v) s.locals c)) (told_local i Write r) f)) (sym (asked_as (λ b. write_answer b i) s.locals c))
-      (by (asked (λ x. x) s.locals c) refl)
-    where
-      by : (o : Option (Stored V)) → asked (λ x. x) s.locals c ≡ o
-          → P (next (with_locals s (changed (written_on i v) s.locals c)) (told_local i Write (option_map (λ b. write_answer b i) o)) f)
-      by None e = subst (λ (xs : List (Stored V)). P (outcome (with_locals s xs) (Err NoClient))) (sym (changed_same (written_on i v) s.locals c (ap (option_map (written_on i v)) e ∙ sym e))) (bad NoClient)
-      by (Some b) e =
-          store_write (λ b' r. (written_on i v) b ≡ b' → P (next (with_locals s (changed (written_on i v) s.locals c)) (told Local i Write r) f)) b i v
-          (λ x q. subst (λ (xs : List (Stored V)). P (outcome (with_locals s xs) (told Local i Write (Err x)))) (sym (changed_same (written_on i v) s.locals c (ap (option_map (written_on i v)) e ∙ (ap Some q ∙ sym e)))) (bad _))
-          (λ h l q.
-          subst (λ (x : Stored V). i < length x.cells → Relocal s.locals c (stored (set x.cells i v) l) (changed (written_on i v) s.locals c) → P (f (with_locals s (changed (written_on i v) s.locals c)) tt))
-          (ap or_no_store e) (λ z. go z l (changed (written_on i v) s.locals c)) h (relocal (written_on i v) b (stored (set b.cells i v) l) e q))
-          refl
+  by_local_write i v f bad go = by_local i Write (λ b. after_write b i v) (λ b. write_answer b i) (λ b. set b.cells i v) (λ _. tt) (λ Q b. store_write Q b i v) f bad go
 
 -- what the table's answers say of a client
 pub journal_is : (t : Records) (c : ℕ) → journal_of t c ≡ journal_in (client_of t c)

@@ -115,12 +115,7 @@ module _ {V : Type 0} (blank : V) where
       → Upheld blank x (log (called blank) (made x) before ++ calls_log (called blank) (after (called blank) (made x) before) qs) (calls_after (called blank) (after (called blank) (made x) before) qs)
   upheld_on x e before qs =
       let d = acts_do blank (made x) before in
-      let P : State V → List (Entry V) → Type 0 = λ u es. Upheld blank x (es ++ calls_log (called blank) u qs) (calls_after (called blank) u qs) in
-      subst (λ (u : State V). P u (log (called blank) (made x) before)) (sym d.0)
-      (subst (λ (es : List (Entry V)). P (calls_after (called blank) (made x) (calls before)) es) (sym d.1)
-      (subst (λ (es : List (Entry V)). Upheld blank x es (calls_after (called blank) (calls_after (called blank) (made x) (calls before)) qs)) (log_joined (called blank) (made x) (calls before) qs)
-      (subst (λ (u : State V). Upheld blank x (calls_log (called blank) (made x) (calls before ++ qs)) u) (after_joined (called blank) (made x) (calls before) qs)
-      (calls_upheld x e (calls before ++ qs)))))
+      rw (d.0, d.1, ← log_joined (called blank) (made x) (calls before) qs, ← after_joined (called blank) (made x) (calls before) qs) (calls_upheld x e (calls before ++ qs))
 
   -- a call that does what the rules say
   pub continues : (entry : State V) (q : Call V) (exit : State V) (r : Reply V) → out exit r ≡ called blank entry q → Continues blank entry q exit r
@@ -138,17 +133,13 @@ module _ {V : Type 0} (blank : V) where
     whatever = λ x before fit led.
         let d = run_does blank entry r in
         subst (λ (w : Running V). Upheld blank x (log (called blank) (made x) before ++ row_log (run_calls r) w.answers w.got) w.state) (sym e)
-        (subst (λ (es : List (Entry V)). Upheld blank x (log (called blank) (made x) before ++ es) (ran (called blank) entry r).state) (sym d.1)
-        (subst (λ (u : State V). Upheld blank x (log (called blank) (made x) before ++ calls_log (called blank) entry (run_calls r)) u) (sym d.0)
-        (subst (λ (u : State V). Upheld blank x (log (called blank) (made x) before ++ calls_log (called blank) u (run_calls r)) (calls_after (called blank) u (run_calls r))) led
-        (upheld_on x fit before (run_calls r)))));
+        (rw (d.1, d.0, ← led) (upheld_on x fit before (run_calls r)));
   }
 
 pub upholds : (V : Type 0) → Upholds V called
 upholds V blank x fit acts =
     let d = acts_do blank (made x) acts in
-    subst (λ (u : State V). Upheld blank x (log (called blank) (made x) acts) u) (sym d.0)
-    (subst (λ (es : List (Entry V)). Upheld blank x es (calls_after (called blank) (made x) (calls acts))) (sym d.1) (calls_upheld blank x fit (calls acts)))
+    rw (d.0, d.1) (calls_upheld blank x fit (calls acts))
 
 -- stores with the same cells and lives are the same
 same_stores : {V : Type 0} (xs ys : List (Stored V)) → map (λ b. b.cells) xs ≡ map (λ b. b.cells) ys → map (λ b. b.life) xs ≡ map (λ b. b.life) ys → xs ≡ ys
