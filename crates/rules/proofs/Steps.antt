@@ -16,7 +16,7 @@ use Rattle.rules.specs.Site.{State, Outcome, outcome, with_table, with_disk, wit
 use Rattle.rules.specs.Calls.{open_call, read_local, read_confirmed, read_fetched, read_call, write_call, begin_call, commit_call, give_up_call, close_call, sweep_cell, sweep_from, sweep_more, sweep_record, Sweeping, sweep_admitted, invalidate_call, restart_client_call, restart_server_call, with_note_of, begin_step, returned, commit_taken, commit_step, give_up_step}
 use Rattle.rules.specs.declared.answer.Source.{Source}
 use Rattle.rules.specs.Replies.{Out, out, refused, replied, open_reply, read_reply, begin_reply, noted_reply, plain_reply, plain, Reply, swept_out}
-use Rattle.rules.specs.Book.{Book, waiting, begun, after_sending, staged, entered, fed, Deed, reads, writes, begins, sends, other, put}
+use Rattle.rules.specs.Book.{Book, waiting, begun, after_sending, staged, entered, fed, Deed, reads, writes, begins, sends, other}
 use Rattle.rules.specs.Claim.{ReadRight}
 use Rattle.records.specs.Records as records
 use Rattle.records.specs.Questions as questions
@@ -55,6 +55,12 @@ module _ {V : Type 0} (blank : V) where
   bad : {m : ℕ} {b : Book V} {q : Deed V} {s : State V} (e : SiteFault) (p n : ℕ) → s.table.size ≡ m → Inv blank m (view s) b → Fine m b q (out s (plain (refused p n e)))
   bad {m} {b} {q} {s} e p n z i = record { size = z; inv = rw (fault_nonzero e) i; right = right_refused b q (plain (refused p n e)) (fault_nonzero e) }
 
+  -- client c's store was changed to l and its record by f, which the invariant sees as cl
+  seen_as : {m : ℕ} {b : Book V} {ls : List (Stored V)} {l : Stored V} {cl : Client V} (s : State V) (c : ℕ) (f : ClientRecord → ClientRecord) → Relocal s.locals c l ls
+      → seen l (option_map f (client_of s.table c)) ≡ cl → Inv blank m (with_client (view s) c cl) b
+      → Inv blank m (view (with_table (with_locals s ls) (records.with_clients s.table (clients.changed f s.table.clients c)))) b
+  seen_as {m} {b} {ls} {l} {cl} s c f r e i = subst (λ (u : View V). Inv blank m u b) (sym (view_both s ls f c l r ∙ ap (with_client (view s) c) e)) i
+
   -- the local store has another life
   aged_local : (s : State V) (b : Book V) (c : ℕ) (l : Life) (ls : List (Stored V)) → Relocal s.locals c (stored (store_of s.locals c).cells l) ls → Kept s b → Kept (with_locals s ls) b
   aged_local s b c l ls r i =
@@ -92,7 +98,7 @@ module _ {V : Type 0} (blank : V) where
       record {
         size = refl;
         inv =
-            subst (λ (u : View V). Inv blank m u (put b k (record { last = v; stage = waiting }))) (sym (view_both s ls _ c _ rel ∙ ap (with_client (view s) c) (put_cell _ (client_of s.table c) k r)))
+            seen_as s c _ rel (put_cell _ (client_of s.table c) k r)
             (moved blank m (view s) b c k cl (record { last = v; stage = waiting }) i
             (λ _. unsent_serves (i.serves k h) (somebody s.table.holder c y.0) v waiting refl)
             (λ _. rw (get_or-set_same (cs s c) k r new_cell w.1, get_or-set_same xs k v blank z, get_or-set_other xs k m v blank n) (write_own (i.keeps k c h) y.0 v))
@@ -136,7 +142,7 @@ module _ {V : Type 0} (blank : V) where
       record {
         size = refl;
         inv =
-            subst (λ (u : View V). Inv blank m u (put b k (staged (b k) begun))) (sym (view_both s₁ ls' _ c _ rel' ∙ ap (with_client (view s₁) c) (begun_client _ (client_of s.table c) k x xn.1 w.1)))
+            seen_as s₁ c _ rel' (begun_client _ (client_of s.table c) k x xn.1 w.1)
             (moved blank m (view s₁) b c k cl (staged (b k) begun) i₁
             (λ _. unsent_serves (i₁.serves k h) (somebody s.table.holder c y.0) (b k).last begun refl)
             (λ _. rw (get_or-set_same (cs s c) k r new_cell w.1, get_or-set_other xs m k v blank n, get_or-set_same xs m v blank z, eq-eqb k k refl, same) (begin_own (own_keeps s₁ b c k x i₁ h w.0) y.0 y.4))
@@ -182,7 +188,7 @@ module _ {V : Type 0} (blank : V) where
       record {
         size = refl;
         inv =
-            subst (λ (u : View V). Inv blank m u (put b k (staged (b k) (after_sending (b k).stage)))) (sym (view_both s₃ ls' _ c _ rel' ∙ ap (with_client (view s₃) c) (emptied_client _ (client_of s.table c))))
+            seen_as s₃ c _ rel' (emptied_client _ (client_of s.table c))
             (moved blank m (view s₃) b c k cl (staged (b k) (after_sending (b k).stage)) i₃
             (λ h. sent_serves (i₃.keeps k c h) (i₃.serves k h) mine (somebody s.table.holder c mine) f e)
             (λ h.
@@ -213,7 +219,7 @@ module _ {V : Type 0} (blank : V) where
       record {
         size = refl;
         inv =
-            subst (λ (u : View V). Inv blank m u b) (sym (view_both s s.locals _ c _ (same_locals s.locals c) ∙ ap (with_client (view s) c) (given_client _ (client_of s.table c) k)))
+            seen_as s c _ (same_locals s.locals c) (given_client _ (client_of s.table c) k)
             (changed blank m (view s) b c cl i
             (λ k' h'.
             equal_or_not _ k' k
@@ -245,9 +251,8 @@ module _ {V : Type 0} (blank : V) where
       record {
         size = refl;
         inv =
-            subst (λ (w : View V). Inv blank m w b)
-            (sym (view_both s₁ s.locals _ c _ (same_locals s.locals c) ∙ ap (with_client (view s₁) c) (unchecked_client _ (client_of s.table c))
-            ∙ ap (λ (x : ℕ). with_client (held_by (view s) x (Some c)) c cl) raised))
+            seen_as s₁ c _ (same_locals s.locals c) (unchecked_client _ (client_of s.table c))
+            (subst (λ (x : ℕ). Inv blank m (with_client (held_by (view s) x (Some c)) c cl) b) (sym raised)
             (record {
               serves = λ k h. open_serves (i.serves k h);
               keeps = λ k c' h.
@@ -256,7 +261,7 @@ module _ {V : Type 0} (blank : V) where
                   (rw (get_or-map unchecked_cell (cs s c) k new_cell, eq-eqb c c refl) (open_own (i.keeps k c h) (unnamed s.table.holder u c) ((i.serves k h).idle (unheld s.table.holder u)))))
                   (λ ne. rw (ne_eqb c c' (λ e. ne (sym e))) (open_other (i.keeps k c' h) (unnamed s.table.holder u c')));
               filed = λ c'. entry (Filed blank m) (view s).clients c cl c' (λ _. filed_unchecked s b c i) (λ _. i.filed c');
-            });
+            }));
         right = tt;
       }
 
@@ -280,7 +285,7 @@ module _ {V : Type 0} (blank : V) where
       record {
         size = refl;
         inv =
-            subst (λ (w : View V). Inv blank m w b) (sym (view_both s₁ s.locals _ c _ (same_locals s.locals c) ∙ ap (with_client (view s₁) c) (unchecked_client _ (client_of s.table c))))
+            seen_as s₁ c _ (same_locals s.locals c) (unchecked_client _ (client_of s.table c))
             (record {
               serves = λ k h. close_serves (i.keeps k c h) (i.serves k h) mine (clean k h).0 (clean k h).1;
               keeps = λ k c' h.
@@ -299,7 +304,7 @@ module _ {V : Type 0} (blank : V) where
   noticed s b c k r i w own =
       let m : ℕ = s.table.size in
       let cl : Client V = record { local = store_of s.locals c; cells = set (cs s c) k r; journal = js s c } in
-      subst (λ (u : View V). Inv blank m u b) (sym (view_both s s.locals _ c _ (same_locals s.locals c) ∙ ap (with_client (view s) c) (put_cell _ (client_of s.table c) k r)))
+      seen_as s c _ (same_locals s.locals c) (put_cell _ (client_of s.table c) k r)
       (changed blank m (view s) b c cl i
       (λ k' h'.
       equal_or_not _ k' k
@@ -357,7 +362,7 @@ module _ {V : Type 0} (blank : V) where
       record {
         size = refl;
         inv =
-            subst (λ (q : View V). Inv blank m q b) (sym (view_both s₂ ls _ c _ rel ∙ ap (with_client (view s₂) c) (put_cell _ (client_of s.table c) k r)))
+            seen_as s₂ c _ rel (put_cell _ (client_of s.table c) k r)
             (changed blank m (view s₂) b c cl i₂
             (λ k' h'.
             equal_or_not _ k' k
@@ -468,7 +473,7 @@ module _ {V : Type 0} (blank : V) where
       record {
         size = refl;
         inv =
-            subst (λ (u : View V). Inv blank m u b) (sym (view_both s _ _ c _ z.1 ∙ ap (with_client (view s) c) (restarted_client _ (client_of s.table c))))
+            seen_as s c _ z.1 (restarted_client _ (client_of s.table c))
             (changed blank m (view s) b c cl i
             (λ k h. rw (get_or_soiled (cs s c) (js s c) k (i.filed c k)) (restart_own (i.keeps k c h)))
             (no_journal m (stored (store_of s.locals c).cells z.0) (map unchecked_cell (records.soiled (cs s c) (js s c)))));
@@ -482,7 +487,7 @@ module _ {V : Type 0} (blank : V) where
   -- a note changes nothing that the invariant speaks of
   note_kept : (s : State V) (b : Book V) (m c : ℕ) (n : Option Flush) → Inv blank m (view s) b → Inv blank m (view (with_note_of s c n)) b
   note_kept s b m c n i =
-      subst (λ (u : View V). Inv blank m u b) (sym (view_both s s.locals _ c _ (same_locals s.locals c) ∙ ap (with_client (view s) c) (noted_client _ (client_of s.table c) n)))
+      seen_as s c _ (same_locals s.locals c) (noted_client _ (client_of s.table c) n)
       (changed blank m (view s) b c _ i (λ k h. i.keeps k c h) (i.filed c))
 
   note_fine : (m : ℕ) (b : Book V) (q : Deed V) (s : State V) (r : Reply V) (c : ℕ) (n : Option Flush) → Fine m b q (out s r) → Fine m b q (out (with_note_of s c n) r)
