@@ -17,7 +17,6 @@ use Rattle.rules.proofs.Plays.{calls, calls_after, acts_do}
 use Rattle.rules.proofs.Starts.{look_says, replicated, survey_finds}
 use Rattle.rules.proofs.Shapes.{Sound, ProperAt, note_own, journal_inside, cells_count, records_count}
 use Rattle.rules.proofs.Refusals.{all_end}
-use Rattle.rules.proofs.Sizes.{AsMany, calls_kept}
 
 -- what the six questions say when none is a no
 record Measured {V : Type 0} (d : Stored V) (ms : Stored ℕ) (ls : List (Stored V)) (o : Looked) : Type 0 where
@@ -55,12 +54,14 @@ module _ {V : Type 0} where
   new_count : (x : Start V) → Fit x → (made x).table.count ≡ length x.locals
   new_count x e = ap (λ (u : Option Unfit). within u (length x.locals)) e
 
-  new_sound : (x : Start V) → Fit x → Sound (made x)
+  new_sound : (x : Start V) → Fit x → Sound (length x.disk.cells) (length x.locals) (made x)
   new_sound x e =
       let h = survey_says x.disk x.marks x.locals x.session e in
       let size = new_size x e in
       let count = new_count x e in
       record {
+        size = size;
+        count = count;
         fit = e;
         cells = rw size h.few_cells;
         clients = rw count h.few_clients;
@@ -71,7 +72,7 @@ module _ {V : Type 0} where
         proper = new_proper x (made x).table.size;
       }
 
-  shaped : (s : State V) → Sound s → Shaped s
+  shaped : {wide many : ℕ} (s : State V) → Sound wide many s → Shaped s
   shaped s h =
       record {
         fit = h.fit;
@@ -85,13 +86,12 @@ module _ {V : Type 0} where
         notes = λ k n. note_own s k n h;
       }
 
-  stays_sound : (blank : V) (s : State V) (qs : List (Call V)) → Sound s → Sound (calls_after (called blank) s qs)
+  stays_sound : {wide many : ℕ} (blank : V) (s : State V) (qs : List (Call V)) → Sound wide many s → Sound wide many (calls_after (called blank) s qs)
   stays_sound blank s [] h = h
   stays_sound blank s (q ∷ qs) h = stays_sound blank (called blank s q).state qs (all_end blank s q h).0
 
 pub keeps_shape : (V : Type 0) → KeepsShape V called
 keeps_shape V blank x fit acts =
     let e = (acts_do blank (made x) acts).0 in
-    let h : Sound (after (called blank) (made x) acts) = subst Sound (sym e) (stays_sound blank (made x) (calls acts) (new_sound x fit)) in
-    let n : AsMany (made x) (after (called blank) (made x) acts) = subst (AsMany (made x)) (sym e) (calls_kept blank (made x) (calls acts)) in
-    (n.0 ∙ new_size x fit, n.1 ∙ new_count x fit, shaped _ h, λ q. (all_end blank (after (called blank) (made x) acts) q h).1)
+    let h = subst (Sound (length x.disk.cells) (length x.locals)) (sym e) (stays_sound blank (made x) (calls acts) (new_sound x fit)) in
+    (h.size, h.count, shaped _ h, λ q. (all_end blank (after (called blank) (made x) acts) q h).1)

@@ -94,72 +94,11 @@ rightly t k None n q = (eight t k n q.0, q.1)
 rightly t k (Some i) n q = (eight t k n q.0, q.1.0, λ w h. q.1.1 (there_true t k w) (rw h (eq-eqb k k refl)))
 
 module _ {V : Type 0} where
-  abbrev Ends : State V → Asking → Out V → Type 0
-  Ends s a o = Sound o.state × Rightly s.table a o.reply.answer.number
+  abbrev Ends : ℕ → ℕ → State V → Asking → Out V → Type 0
+  Ends wide many s a o = Sound wide many o.state × Rightly s.table a o.reply.answer.number
 
-  exact_ends : {X : Type 0} (reply : Result X SiteFault → Reply V) → ((r : Result X SiteFault) → (reply r).answer.number ≡ num r) → (s : State V) (k : ℕ) (c : Option ℕ) (o : Outcome V X)
-      → Sound o.state × Exact s.table k c (num o.answer) → Ends s (about k c) (replied reply o)
-  exact_ends reply e s k c o h = (h.0, rightly s.table k c _ (subst (Exact s.table k c) (sym (e o.answer)) h.1))
-
-  safe_ends : {X : Type 0} (reply : Result X SiteFault → Reply V) → ((r : Result X SiteFault) → (reply r).answer.number ≡ num r) → (s : State V) (o : Outcome V X) → Safe o → Ends s nobody (replied reply o)
-  safe_ends reply e s o h = let q : Clear (reply o.answer).answer.number = subst Clear (sym (e o.answer)) h.1 in (h.0, (q.eight, q.twelve))
-
-  -- an outcome of a client that is there, and of a call that takes no cell, is safe
-  exact_safe : {X : Type 0} (s : State V) (k : ℕ) (o : Outcome V X) → there s.table k ≡ true → Sound o.state × Exact s.table k None (num o.answer) → Safe o
-  exact_safe s k o th h = (h.0, record { eight = λ e. true_false (sym th ∙ h.1.0.0 e); twelve = h.1.1 })
-
-  with_cell_sound : (s : State V) (k i : ℕ) (r : CellRecord) → Sound s → Sound (with_table s (with_cell s.table k i r))
-  with_cell_sound s k i r h = with_client_sound s s.table.session s.table.holder (λ c. with_cells c (set c.cells i r)) k h (λ c. length-set c.cells i r) (λ c w. w)
-
-  with_note_sound : (s : State V) (k : ℕ) (n : Option Flush) → Own k n → Sound s → Sound (with_note_of s k n)
-  with_note_sound s k n w h = with_client_sound s s.table.session s.table.holder (λ c. with_note c n) k h (λ c. refl) (λ c q. (w, q.1))
-
-  open_ends : (s : State V) (k : ℕ) → Sound s → Ends s (of_client k) (replied open_reply (open_call s k))
-  open_ends s k h =
-      exact_ends open_reply (open_num V) s k None (open_call s k)
-      (whole s k None (opening s.table k) _ h
-      (question s.table k None _ h.fit
-      (λ th. none_exact s.table k _ (unless_clear (is_none s.table.holder) fault.Held _ (clear_lit 9 refl refl) (unless_clear (ltb s.table.session top) fault.SessionsUsed (Ok (s.table.session + 1)) (clear_lit 10 refl refl) zero_clear)) th))
-      (λ n _ th. (with_client_sound s n (Some k) unchecked_client k h (λ c. length-map c.cells unchecked_cell) (λ c w. w), zero_clear)))
-
-  -- a call that takes a cell, admitted
-  admitted_exact : (s : State V) (k i : ℕ) → Sound s → Exact s.table k (Some i) (num (admitted s.table k i))
-  admitted_exact s k i h = subst (λ (r : Result CellRecord SiteFault). Exact s.table k (Some i) (num r)) (and_then_ok (admitted s.table k i)) (celled s k i (λ r. Ok r) h (λ r. zero_clear))
-
-  read_ends : (s : State V) (k i : ℕ) → Sound s → Ends s (of_cell k i) (replied (read_reply i) (read_call s k i))
-  unfolding read_local read_confirmed read_fetched
-  read_ends s k i h =
-      exact_ends (read_reply i) (read_num V i) s k (Some i) (read_call s k i)
-      (whole s k (Some i) (admitted s.table k i) _ h (admitted_exact s k i h) λ r _ th.
-      cond_both (settled r (is_in_journal s.table k i)) _ _ Safe
-      (λ _. safe_then (local_read s k i) _ (local_read_safe s k i h th) (λ v h₁. (h₁, zero_clear)))
-      (λ _.
-      safe_then (mark_read s i) _ (mark_read_safe s i h) λ mark h₁.
-      let s₁ : State V = (mark_read s i).state in
-      cond_both (fresh r.kept mark) _ _ Safe
-      (λ _. safe_then (local_read s₁ k i) _ (local_read_safe s₁ k i h₁ th) (λ v h₂. (with_cell_sound _ k i _ h₂, zero_clear)))
-      (λ _.
-      safe_then (disk_read s₁ i) _ (disk_read_safe s₁ i h₁) λ v h₂.
-      let s₂ : State V = (disk_read s₁ i).state in
-      safe_then (local_write s₂ k i v) _ (local_write_safe s₂ k i v h₂ th) (λ _ h₃. (with_cell_sound _ k i _ h₃, zero_clear)))))
-
-  write_ends : (s : State V) (k i : ℕ) (v : V) → Sound s → Ends s (of_cell k i) (replied (plain_reply i) (write_call s k i v))
-  write_ends s k i v h =
-      exact_ends (plain_reply i) (plain_num V i) s k (Some i) (write_call s k i v)
-      (whole s k (Some i) (admitted s.table k i) _ h (admitted_exact s k i h) λ r _ th.
-      safe_then (local_write s k i v) _ (local_write_safe s k i v h th) (λ _ h₁. (with_cell_sound _ k i _ h₁, zero_clear)))
-
-  begin_exact : (s : State V) (k i : ℕ) → Sound s → Sound (begin_call s k i).state × Exact s.table k (Some i) (num (begin_call s k i).answer)
-  begin_exact s k i h =
-      whole s k (Some i) (beginning s.table k i) _ h
-      (celled s k i _ h
-      (λ r. unless_clear (is_none (journal_of s.table k)) fault.JournalUsed _ (clear_lit 13 refl refl)
-      (unless_clear r.dirty fault.NotDirty _ (clear_lit 14 refl refl) (unless_clear (ltb (turn_of s.table k) top) fault.TurnsUsed (Ok (r, turn_of s.table k + 1)) (clear_lit 15 refl refl) zero_clear))))
-      λ x e th.
-      safe_then (local_read s k i) _ (local_read_safe s k i h th) λ v h₁.
-      let s₁ : State V = (local_read s k i).state in
-      safe_then (local_write s₁ k s.table.size v) _ (local_write_safe s₁ k s.table.size v h₁ th) λ _ h₂.
-      (with_client_sound (local_write s₁ k s.table.size v).state s.table.session s.table.holder (λ c. begun_client c i x.0 x.1) k h₂ (λ c. length-set c.cells i (dirtied false x.0)) (λ c w. (w.0, (beginning_says s.table k i x e).1)), zero_clear)
+  abbrev SafeSweep : ℕ → ℕ → Sweeping V → Type 0
+  SafeSweep wide many o = Sound wide many o.state × Clear (stop_num o.answer)
 
   -- the slip names the client who began
   begin_names : (s : State V) (k i : ℕ) (n : Flush) → (begin_call s k i).answer ≡ Ok n → n.client ≡ k
@@ -173,20 +112,85 @@ module _ {V : Type 0} where
       followed P s₂ (local_write s₁ k s.table.size v).answer _ (bad s₂) λ _ _ n q.
       sym (ap (λ (f : Flush). f.client) (let q' : record { client = k; cell = i; turn = x.1 } ≡ n = cc in q'))
 
-  begin_ends : (s : State V) (k i : ℕ) → Sound s → Ends s (of_cell k i) (replied (begin_reply i) (begin_call s k i))
+module _ {V : Type 0} {wide many : ℕ} where
+  exact_ends : {X : Type 0} (reply : Result X SiteFault → Reply V) → ((r : Result X SiteFault) → (reply r).answer.number ≡ num r) → (s : State V) (k : ℕ) (c : Option ℕ) (o : Outcome V X)
+      → Sound wide many o.state × Exact s.table k c (num o.answer) → Ends wide many s (about k c) (replied reply o)
+  exact_ends reply e s k c o h = (h.0, rightly s.table k c _ (subst (Exact s.table k c) (sym (e o.answer)) h.1))
+
+  safe_ends : {X : Type 0} (reply : Result X SiteFault → Reply V) → ((r : Result X SiteFault) → (reply r).answer.number ≡ num r) → (s : State V) (o : Outcome V X) → Safe wide many o → Ends wide many s nobody (replied reply o)
+  safe_ends reply e s o h = let q : Clear (reply o.answer).answer.number = subst Clear (sym (e o.answer)) h.1 in (h.0, (q.eight, q.twelve))
+
+  -- an outcome of a client that is there, and of a call that takes no cell, is safe
+  exact_safe : {X : Type 0} (s : State V) (k : ℕ) (o : Outcome V X) → there s.table k ≡ true → Sound wide many o.state × Exact s.table k None (num o.answer) → Safe wide many o
+  exact_safe s k o th h = (h.0, record { eight = λ e. true_false (sym th ∙ h.1.0.0 e); twelve = h.1.1 })
+
+  with_cell_sound : (s : State V) (k i : ℕ) (r : CellRecord) → Sound wide many s → Sound wide many (with_table s (with_cell s.table k i r))
+  with_cell_sound s k i r h = with_client_sound s s.table.session s.table.holder (λ c. with_cells c (set c.cells i r)) k h (λ c. length-set c.cells i r) (λ c w. w)
+
+  with_note_sound : (s : State V) (k : ℕ) (n : Option Flush) → Own k n → Sound wide many s → Sound wide many (with_note_of s k n)
+  with_note_sound s k n w h = with_client_sound s s.table.session s.table.holder (λ c. with_note c n) k h (λ c. refl) (λ c q. (w, q.1))
+
+  open_ends : (s : State V) (k : ℕ) → Sound wide many s → Ends wide many s (of_client k) (replied open_reply (open_call s k))
+  open_ends s k h =
+      exact_ends open_reply (open_num V) s k None (open_call s k)
+      (whole s k None (opening s.table k) _ h
+      (question s.table k None _ h.fit
+      (λ th. none_exact s.table k _ (unless_clear (is_none s.table.holder) fault.Held _ (clear_lit 9 refl refl) (unless_clear (ltb s.table.session top) fault.SessionsUsed (Ok (s.table.session + 1)) (clear_lit 10 refl refl) zero_clear)) th))
+      (λ n _ th. (with_client_sound s n (Some k) unchecked_client k h (λ c. length-map c.cells unchecked_cell) (λ c w. w), zero_clear)))
+
+  -- a call that takes a cell, admitted
+  admitted_exact : (s : State V) (k i : ℕ) → Sound wide many s → Exact s.table k (Some i) (num (admitted s.table k i))
+  admitted_exact s k i h = subst (λ (r : Result CellRecord SiteFault). Exact s.table k (Some i) (num r)) (and_then_ok (admitted s.table k i)) (celled s k i (λ r. Ok r) h (λ r. zero_clear))
+
+  read_ends : (s : State V) (k i : ℕ) → Sound wide many s → Ends wide many s (of_cell k i) (replied (read_reply i) (read_call s k i))
+  unfolding read_local read_confirmed read_fetched
+  read_ends s k i h =
+      exact_ends (read_reply i) (read_num V i) s k (Some i) (read_call s k i)
+      (whole s k (Some i) (admitted s.table k i) _ h (admitted_exact s k i h) λ r _ th.
+      cond_both (settled r (is_in_journal s.table k i)) _ _ (Safe wide many)
+      (λ _. safe_then (local_read s k i) _ (local_read_safe s k i h th) (λ v h₁. (h₁, zero_clear)))
+      (λ _.
+      safe_then (mark_read s i) _ (mark_read_safe s i h) λ mark h₁.
+      let s₁ : State V = (mark_read s i).state in
+      cond_both (fresh r.kept mark) _ _ (Safe wide many)
+      (λ _. safe_then (local_read s₁ k i) _ (local_read_safe s₁ k i h₁ th) (λ v h₂. (with_cell_sound _ k i _ h₂, zero_clear)))
+      (λ _.
+      safe_then (disk_read s₁ i) _ (disk_read_safe s₁ i h₁) λ v h₂.
+      let s₂ : State V = (disk_read s₁ i).state in
+      safe_then (local_write s₂ k i v) _ (local_write_safe s₂ k i v h₂ th) (λ _ h₃. (with_cell_sound _ k i _ h₃, zero_clear)))))
+
+  write_ends : (s : State V) (k i : ℕ) (v : V) → Sound wide many s → Ends wide many s (of_cell k i) (replied (plain_reply i) (write_call s k i v))
+  write_ends s k i v h =
+      exact_ends (plain_reply i) (plain_num V i) s k (Some i) (write_call s k i v)
+      (whole s k (Some i) (admitted s.table k i) _ h (admitted_exact s k i h) λ r _ th.
+      safe_then (local_write s k i v) _ (local_write_safe s k i v h th) (λ _ h₁. (with_cell_sound _ k i _ h₁, zero_clear)))
+
+  begin_exact : (s : State V) (k i : ℕ) → Sound wide many s → Sound wide many (begin_call s k i).state × Exact s.table k (Some i) (num (begin_call s k i).answer)
+  begin_exact s k i h =
+      whole s k (Some i) (beginning s.table k i) _ h
+      (celled s k i _ h
+      (λ r. unless_clear (is_none (journal_of s.table k)) fault.JournalUsed _ (clear_lit 13 refl refl)
+      (unless_clear r.dirty fault.NotDirty _ (clear_lit 14 refl refl) (unless_clear (ltb (turn_of s.table k) top) fault.TurnsUsed (Ok (r, turn_of s.table k + 1)) (clear_lit 15 refl refl) zero_clear))))
+      λ x e th.
+      safe_then (local_read s k i) _ (local_read_safe s k i h th) λ v h₁.
+      let s₁ : State V = (local_read s k i).state in
+      safe_then (local_write s₁ k s.table.size v) _ (local_write_safe s₁ k s.table.size v h₁ th) λ _ h₂.
+      (with_client_sound (local_write s₁ k s.table.size v).state s.table.session s.table.holder (λ c. begun_client c i x.0 x.1) k h₂ (λ c. length-set c.cells i (dirtied false x.0)) (λ c w. (w.0, (beginning_says s.table k i x e).1)), zero_clear)
+
+  begin_ends : (s : State V) (k i : ℕ) → Sound wide many s → Ends wide many s (of_cell k i) (replied (begin_reply i) (begin_call s k i))
   begin_ends s k i h = exact_ends (begin_reply i) (begin_num V i) s k (Some i) (begin_call s k i) (begin_exact s k i h)
 
-  begin_step_ends : (s : State V) (k i : ℕ) → Sound s → Ends s (of_cell k i) (replied (noted_reply i) (begin_step s k i))
+  begin_step_ends : (s : State V) (k i : ℕ) → Sound wide many s → Ends wide many s (of_cell k i) (replied (noted_reply i) (begin_step s k i))
   begin_step_ends s k i h =
       exact_ends (noted_reply i) (noted_num V i) s k (Some i) (begin_step s k i) (by (begin_call s k i).answer (begin_names s k i) (begin_exact s k i h))
     where
-      by : (r : Result Flush SiteFault) → ((n : Flush) → r ≡ Ok n → n.client ≡ k) → Sound (begin_call s k i).state × Exact s.table k (Some i) (num r)
-          → Sound (next (begin_call s k i).state r (λ s₁ n. outcome {X = Flush} (with_note_of s₁ k (Some n)) (Ok n))).state
+      by : (r : Result Flush SiteFault) → ((n : Flush) → r ≡ Ok n → n.client ≡ k) → Sound wide many (begin_call s k i).state × Exact s.table k (Some i) (num r)
+          → Sound wide many (next (begin_call s k i).state r (λ s₁ n. outcome {X = Flush} (with_note_of s₁ k (Some n)) (Ok n))).state
           × Exact s.table k (Some i) (num (next (begin_call s k i).state r (λ s₁ n. outcome {X = Flush} (with_note_of s₁ k (Some n)) (Ok n))).answer)
       by (Ok n) w x = (with_note_sound (begin_call s k i).state k (Some n) (w n refl) x.0, x.1)
       by (Err e) w x = x
 
-  commit_exact : (blank : V) (s : State V) (k i n : ℕ) → Sound s → Sound (commit_call blank s k i n).state × Exact s.table k None (num (commit_call blank s k i n).answer)
+  commit_exact : (blank : V) (s : State V) (k i n : ℕ) → Sound wide many s → Sound wide many (commit_call blank s k i n).state × Exact s.table k None (num (commit_call blank s k i n).answer)
   commit_exact blank s k i n h =
       whole s k None (committing s.table k i n) _ h
       (held s.table k None _ h.fit (λ th _. none_exact s.table k _ (unless_clear (flushing s.table k i n) fault.NoFlush (Ok tt) (clear_lit 16 refl refl) zero_clear) th))
@@ -201,48 +205,45 @@ module _ {V : Type 0} where
       safe_then (local_write s₃ k m blank) _ (local_write_safe s₃ k m blank h₃ th) λ _ h₄.
       (with_client_sound (local_write s₃ k m blank).state s.table.session s.table.holder (λ c. with_journal c None) k h₄ (λ c. refl) (λ c w. (w.0, tt)), zero_clear)
 
-  give_up_safe : (s : State V) (k i n : ℕ) → Sound s → Safe (give_up_call s k i n)
+  give_up_safe : (s : State V) (k i n : ℕ) → Sound wide many s → Safe wide many (give_up_call s k i n)
   give_up_safe s k i n h =
       safe_then (outcome s (giving_up s.table k i n)) _ (h, unless_clear (flushing s.table k i n) fault.NoFlush (Ok tt) (clear_lit 16 refl refl) zero_clear) λ _ _.
       (with_client_sound s s.table.session s.table.holder (λ c. given_up_client c i) k h (λ c. length-set c.cells i (dirtied true (get_or c.cells i new_cell))) (λ c w. (w.0, tt)), zero_clear)
 
-  close_ends : (s : State V) (k : ℕ) → Sound s → Ends s (of_client k) (replied (plain_reply 0) (close_call s k))
+  close_ends : (s : State V) (k : ℕ) → Sound wide many s → Ends wide many s (of_client k) (replied (plain_reply 0) (close_call s k))
   close_ends s k h =
       exact_ends (plain_reply 0) (plain_num V 0) s k None (close_call s k)
       (whole s k None (closing s.table k) _ h
       (held s.table k None _ h.fit (λ th _. none_exact s.table k _ (all_sent_clear (first_from (unsent_at s.table k) s.table.size 0)) th))
       (λ _ _ th. (with_client_sound s s.table.session None unchecked_client k h (λ c. length-map c.cells unchecked_cell) (λ c w. w), zero_clear)))
 
-  sweep_cell_safe : (s : State V) (k i : ℕ) → Sound s → Safe (sweep_cell s k i)
+  sweep_cell_safe : (s : State V) (k i : ℕ) → Sound wide many s → Safe wide many (sweep_cell s k i)
   unfolding sweep_cell
   sweep_cell_safe s k i h = by (cell_of s.table k i)
     where
-      by : (o : Option CellRecord) → Safe (sweep_record s k i o)
+      by : (o : Option CellRecord) → Safe wide many (sweep_record s k i o)
       by None = (h, zero_clear)
       by (Some r) =
-          cond_both (sweeps r (is_in_journal s.table k i)) _ _ Safe
+          cond_both (sweeps r (is_in_journal s.table k i)) _ _ (Safe wide many)
           (λ _. safe_then (mark_read s i) _ (mark_read_safe s i h) (λ mark h₁. (with_cell_sound _ k i (swept_cell r mark) h₁, zero_clear)))
           (λ _. (h, zero_clear))
 
-  abbrev SafeSweep : Sweeping V → Type 0
-  SafeSweep o = Sound o.state × Clear (stop_num o.answer)
-
-  sweep_safe : (n k i d : ℕ) (s : State V) → Sound s → SafeSweep (sweep_from k n s i d)
+  sweep_safe : (n k i d : ℕ) (s : State V) → Sound wide many s → SafeSweep wide many (sweep_from k n s i d)
   unfolding sweep_from
   sweep_safe zero k i d s h = (h, zero_clear)
   sweep_safe (suc n) k i d s h = by (sweep_cell s k i).answer (sweep_cell_safe s k i h) (λ d' h'. sweep_safe n k (i + 1) d' (sweep_cell s k i).state h')
     where
-      by : (r : Result Bool SiteFault) → Sound (sweep_cell s k i).state × Clear (num r) → ((d' : ℕ) → Sound (sweep_cell s k i).state → SafeSweep (sweep_from k n (sweep_cell s k i).state (i + 1) d'))
-          → SafeSweep (sweep_more (sweep_from k n) (sweep_cell s k i).state r i d)
+      by : (r : Result Bool SiteFault) → Sound wide many (sweep_cell s k i).state × Clear (num r) → ((d' : ℕ) → Sound wide many (sweep_cell s k i).state → SafeSweep wide many (sweep_from k n (sweep_cell s k i).state (i + 1) d'))
+          → SafeSweep wide many (sweep_more (sweep_from k n) (sweep_cell s k i).state r i d)
       by (Ok b) w go = go (d + cond b 1 0) w.0
       by (Err e) w go = w
 
-  invalidate_ends : (s : State V) (k : ℕ) → Sound s → Ends s (of_client k) (swept_out (invalidate_call s k))
+  invalidate_ends : (s : State V) (k : ℕ) → Sound wide many s → Ends wide many s (of_client k) (swept_out (invalidate_call s k))
   invalidate_ends s k h =
       by (holding s.table k) refl
       (subst (λ (r : Result (Unit {0}) SiteFault). Exact s.table k None (num r)) (and_then_ok (holding s.table k)) (held s.table k None (Ok tt) h.fit (λ th _. none_exact s.table k 0 zero_clear th)))
     where
-      by : (r : Result (Unit {0}) SiteFault) → holding s.table k ≡ r → Exact s.table k None (num r) → Ends s (of_client k) (swept_out (sweep_admitted s k r))
+      by : (r : Result (Unit {0}) SiteFault) → holding s.table k ≡ r → Exact s.table k None (num r) → Ends wide many s (of_client k) (swept_out (sweep_admitted s k r))
       by (Err e) q x = (h, rightly s.table k None _ x)
       by (Ok u) q x =
           let w = sweep_safe s.table.size k 0 0 s h in
@@ -250,23 +251,23 @@ module _ {V : Type 0} where
           let c : Clear (swept_reply {V = V} o.answer).answer.number = subst Clear (sym (swept_num V o.answer)) w.1 in
           (w.0, rightly s.table k None _ (((λ e. absurd (c.eight e)), (λ e. let z = x.0.1 e in absurd (omega arith))), c.twelve))
 
-  present_exact : (s : State V) (k : ℕ) → Sound s → Exact s.table k None (num (present s.table k))
+  present_exact : (s : State V) (k : ℕ) → Sound wide many s → Exact s.table k None (num (present s.table k))
   present_exact s k h =
       subst (λ (r : Result (Unit {0}) SiteFault). Exact s.table k None (num r)) (and_then_ok (present s.table k))
       (question s.table k None (Ok tt) h.fit (λ th. none_exact s.table k 0 zero_clear th))
 
-  restart_client_ends : (s : State V) (k n : ℕ) → Sound s → Ends s (of_client k) (replied (plain_reply 0) (restart_client_call s k n))
+  restart_client_ends : (s : State V) (k n : ℕ) → Sound wide many s → Ends wide many s (of_client k) (replied (plain_reply 0) (restart_client_call s k n))
   restart_client_ends s k n h =
       exact_ends (plain_reply 0) (plain_num V 0) s k None (restart_client_call s k n)
       (whole s k None (present s.table k) _ h (present_exact s k h)
       (λ _ _ th. (with_client_sound (with_locals s (changed (after_renew n) s.locals k)) s.table.session s.table.holder restarted_client k (with_locals_sound s (after_renew n) k h (λ b. refl)) (λ c. soiled_long c.cells c.journal) (λ c _. (tt, tt)), zero_clear)))
 
-  restart_server_safe : (s : State V) (n m : ℕ) → Sound s → Safe (restart_server_call s n m)
+  restart_server_safe : (s : State V) (n m : ℕ) → Sound wide many s → Safe wide many (restart_server_call s n m)
   restart_server_safe s n m h =
       safe_then (outcome s (questions.fit s.table)) _ (h, unless_clear (is_none s.table.unfit) fault.Unfit (Ok tt) (clear_lit 7 refl refl) zero_clear) λ _ _.
       (with_marks_sound (with_disk s (after_renew n s.disk)) (after_renew m s.marks) (with_disk_sound s (after_renew n s.disk) h refl) refl, zero_clear)
 
-  commit_step_ends : (blank : V) (s : State V) (k : ℕ) → Sound s → Ends s (of_client k) (replied (plain_reply (taken_place (taking_to_commit s.table k))) (commit_step blank s k))
+  commit_step_ends : (blank : V) (s : State V) (k : ℕ) → Sound wide many s → Ends wide many s (of_client k) (replied (plain_reply (taken_place (taking_to_commit s.table k))) (commit_step blank s k))
   unfolding commit_taken
   commit_step_ends blank s k h =
       exact_ends (plain_reply _) (plain_num V _) s k None (commit_step blank s k)
@@ -278,19 +279,19 @@ module _ {V : Type 0} where
       let th₁ : there s.table n.client ≡ true = rw own th in
       by n own (commit_call blank s₁ n.client n.cell n.turn).answer (exact_safe s₁ n.client (commit_call blank s₁ n.client n.cell n.turn) th₁ (commit_exact blank s₁ n.client n.cell n.turn (with_note_sound s k None tt h))))
     where
-      by : (n : Flush) → n.client ≡ k → (r : Result (Unit {0}) SiteFault) → Sound (commit_call blank (with_note_of s k None) n.client n.cell n.turn).state × Clear (num r)
-          → Safe (returned k n (commit_call blank (with_note_of s k None) n.client n.cell n.turn).state r)
+      by : (n : Flush) → n.client ≡ k → (r : Result (Unit {0}) SiteFault) → Sound wide many (commit_call blank (with_note_of s k None) n.client n.cell n.turn).state × Clear (num r)
+          → Safe wide many (returned k n (commit_call blank (with_note_of s k None) n.client n.cell n.turn).state r)
       by n own (Ok x) w = w
       by n own (Err e) w = (with_note_sound (commit_call blank (with_note_of s k None) n.client n.cell n.turn).state k (Some n) own w.0, w.1)
 
-  give_up_step_ends : (s : State V) (k : ℕ) → Sound s → Ends s (of_client k) (replied (plain_reply (taken_place (taking_to_give_up s.table k))) (give_up_step s k))
+  give_up_step_ends : (s : State V) (k : ℕ) → Sound wide many s → Ends wide many s (of_client k) (replied (plain_reply (taken_place (taking_to_give_up s.table k))) (give_up_step s k))
   give_up_step_ends s k h =
       exact_ends (plain_reply _) (plain_num V _) s k None (give_up_step s k)
       (whole s k None (taking_to_give_up s.table k) _ h
       (question s.table k None _ h.fit (λ th. none_exact s.table k _ (taken_clear (note_of s.table k)) th))
       (λ n _ th. give_up_safe (with_note_of s k None) n.client n.cell n.turn (with_note_sound s k None tt h)))
 
-  pub all_end : (blank : V) (s : State V) (q : Call V) → Sound s → Ends s (asking q) (called blank s q)
+  pub all_end : (blank : V) (s : State V) (q : Call V) → Sound wide many s → Ends wide many s (asking q) (called blank s q)
   unfolding called
   all_end blank s (Open k) h = open_ends s k h
   all_end blank s (Read k i) h = read_ends s k i h

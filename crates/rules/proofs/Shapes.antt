@@ -77,7 +77,10 @@ abbrev pub ProperAt : ℕ → ℕ → Option ClientRecord → Type 0
 ProperAt m k None = Unit {0}
 ProperAt m k (Some c) = Proper m k c
 
-pub record Sound {V : Type 0} (s : State V) : Type 0 where
+-- a fit site of `wide` cells and `many` clients
+pub record Sound {V : Type 0} (wide many : ℕ) (s : State V) : Type 0 where
+  pub size : s.table.size ≡ wide
+  pub count : s.table.count ≡ many
   pub fit : s.table.unfit ≡ None
   pub cells : s.table.size ≤ 1024
   pub clients : s.table.count ≤ 8
@@ -97,18 +100,20 @@ pub record Clear (n : ℕ) : Type 0 where
   pub eight : n ≡ 8 → ⊥
   pub twelve : n ≡ 12 → ⊥
 
-module _ {V : Type 0} where
-  pub with_disk_sound : (s : State V) (d : Stored V) → Sound s → length d.cells ≡ length s.disk.cells → Sound (with_disk s d)
+module _ {V : Type 0} {wide many : ℕ} where
+  pub with_disk_sound : (s : State V) (d : Stored V) → Sound wide many s → length d.cells ≡ length s.disk.cells → Sound wide many (with_disk s d)
   with_disk_sound s d h e =
-      record { fit = h.fit; cells = h.cells; clients = h.clients; disk = e ∙ h.disk; marks = h.marks; locals = h.locals; records = h.records; proper = h.proper }
+      record { size = h.size; count = h.count; fit = h.fit; cells = h.cells; clients = h.clients; disk = e ∙ h.disk; marks = h.marks; locals = h.locals; records = h.records; proper = h.proper }
 
-  pub with_marks_sound : (s : State V) (d : Stored ℕ) → Sound s → length d.cells ≡ length s.marks.cells → Sound (with_marks s d)
+  pub with_marks_sound : (s : State V) (d : Stored ℕ) → Sound wide many s → length d.cells ≡ length s.marks.cells → Sound wide many (with_marks s d)
   with_marks_sound s d h e =
-      record { fit = h.fit; cells = h.cells; clients = h.clients; disk = h.disk; marks = e ∙ h.marks; locals = h.locals; records = h.records; proper = h.proper }
+      record { size = h.size; count = h.count; fit = h.fit; cells = h.cells; clients = h.clients; disk = h.disk; marks = e ∙ h.marks; locals = h.locals; records = h.records; proper = h.proper }
 
-  pub with_locals_sound : (s : State V) (f : Stored V → Stored V) (k : ℕ) → Sound s → ((b : Stored V) → cells_count (f b) ≡ cells_count b) → Sound (with_locals s (changed f s.locals k))
+  pub with_locals_sound : (s : State V) (f : Stored V → Stored V) (k : ℕ) → Sound wide many s → ((b : Stored V) → cells_count (f b) ≡ cells_count b) → Sound wide many (with_locals s (changed f s.locals k))
   with_locals_sound s f k h e =
       record {
+        size = h.size;
+        count = h.count;
         fit = h.fit;
         cells = h.cells;
         clients = h.clients;
@@ -120,13 +125,15 @@ module _ {V : Type 0} where
       }
 
   -- a client's record changes, and stays proper
-  pub with_client_sound : (s : State V) (n : ℕ) (o : Option ℕ) (f : ClientRecord → ClientRecord) (k : ℕ) → Sound s → ((c : ClientRecord) → records_count (f c) ≡ records_count c)
+  pub with_client_sound : (s : State V) (n : ℕ) (o : Option ℕ) (f : ClientRecord → ClientRecord) (k : ℕ) → Sound wide many s → ((c : ClientRecord) → records_count (f c) ≡ records_count c)
       → ((c : ClientRecord) → Proper s.table.size k c → Proper s.table.size k (f c))
-      → Sound (with_table s (record { unfit = s.table.unfit; size = s.table.size; count = s.table.count; session = n; holder = o; clients = changed f s.table.clients k }))
+      → Sound wide many (with_table s (record { unfit = s.table.unfit; size = s.table.size; count = s.table.count; session = n; holder = o; clients = changed f s.table.clients k }))
   with_client_sound s n o f k h e w =
       let cs : List ClientRecord = s.table.clients in
       let m : ℕ = s.table.size in
       record {
+        size = h.size;
+        count = h.count;
         fit = h.fit;
         cells = h.cells;
         clients = h.clients;
@@ -146,9 +153,9 @@ module _ {V : Type 0} where
       moved None q = tt
       moved (Some c) q = w c q
 
-module _ {V : Type 0} (s : State V) (k : ℕ) where
+module _ {V : Type 0} {wide many : ℕ} (s : State V) (k : ℕ) where
   -- what a proper record says of its field f, if the field is there
-  proper_says : {X : Type 0} (f : ClientRecord → Option X) (P : X → Type 0) → Sound s → ((c : ClientRecord) → Proper s.table.size k c → (x : X) → f c ≡ Some x → P x)
+  proper_says : {X : Type 0} (f : ClientRecord → Option X) (P : X → Type 0) → Sound wide many s → ((c : ClientRecord) → Proper s.table.size k c → (x : X) → f c ≡ Some x → P x)
       → (x : X) → option_flatten (asked f s.table.clients k) ≡ Some x → P x
   proper_says {X} f P h g x e = by (asked (λ c. c) s.table.clients k) (h.proper k) (sym (ap option_flatten (asked_as f s.table.clients k)) ∙ e)
     where
@@ -157,11 +164,11 @@ module _ {V : Type 0} (s : State V) (k : ℕ) where
       by (Some c) w q = g c w x q
 
   -- the note and the journal
-  pub note_own : (n : Flush) → Sound s → note_of s.table k ≡ Some n → n.client ≡ k
+  pub note_own : (n : Flush) → Sound wide many s → note_of s.table k ≡ Some n → n.client ≡ k
   unfolding note_of
   note_own n h e = proper_says (λ c. c.note) (λ n. n.client ≡ k) h (λ c w n q. subst (Own k) q w.0) n e
 
-  pub journal_inside : (i : ℕ) → Sound s → journal_of s.table k ≡ Some i → i < s.table.size
+  pub journal_inside : (i : ℕ) → Sound wide many s → journal_of s.table k ≡ Some i → i < s.table.size
   unfolding journal_of
   journal_inside i h e = proper_says (λ c. c.journal) (λ i. i < s.table.size) h (λ c w i q. subst (Inside s.table.size) q w.1) i e
 
@@ -178,42 +185,42 @@ told_clear Disk i o (Err e) = record { eight = λ z. omega arith; twelve = λ z.
 pub there_says : (t : Records) (k : ℕ) → there t k ≡ true → (0 < k) × (k ≤ t.count)
 there_says t k h = let a = and_parts _ _ h in (ltb-true _ _ a.0, leb-true _ _ a.1)
 
-module _ {V : Type 0} where
+-- once the questions are a yes: the site is sound, and no refusal is 8 or 12
+abbrev pub Safe : {V X : Type 0} → ℕ → ℕ → Outcome V X → Type 0
+Safe wide many o = Sound wide many o.state × Clear (num o.answer)
+
+module _ {V : Type 0} {wide many : ℕ} where
   -- every client that is there has a local store
-  local_clear : {X : Type 0} (s : State V) (k i : ℕ) (o : Operation) (f : Stored V → Result X Fault) → Sound s → there s.table k ≡ true
+  local_clear : {X : Type 0} (s : State V) (k i : ℕ) (o : Operation) (f : Stored V → Result X Fault) → Sound wide many s → there s.table k ≡ true
       → Clear (num (told_local i o (asked f s.locals k)))
   local_clear {X} s k i o f h th =
       let z = there_says s.table k th in
       let b = entry_there cells_count s.locals s.table.count (s.table.size + 1) k h.locals z.0 z.1 in
       subst (λ (r : Option (Result X Fault)). Clear (num (told_local i o r))) (sym (asked_as f s.locals k ∙ ap (option_map f) b.1)) (told_clear Local i o (f b.0))
 
-  -- once the questions are a yes: the site is sound, and no refusal is 8 or 12
-  abbrev pub Safe : {X : Type 0} → Outcome V X → Type 0
-  Safe o = Sound o.state × Clear (num o.answer)
-
-  pub safe_then : {X Y : Type 0} (o : Outcome V X) (f : State V → X → Outcome V Y) → Safe o → ((x : X) → Sound o.state → Safe (f o.state x)) → Safe (o then f)
+  pub safe_then : {X Y : Type 0} (o : Outcome V X) (f : State V → X → Outcome V Y) → Safe wide many o → ((x : X) → Sound wide many o.state → Safe wide many (f o.state x)) → Safe wide many (o then f)
   safe_then {X} {Y} o f h go = by o.answer h.1
     where
-      by : (r : Result X SiteFault) → Clear (num r) → Safe (next o.state r f)
+      by : (r : Result X SiteFault) → Clear (num r) → Safe wide many (next o.state r f)
       by (Ok x) c = go x h.0
       by (Err e) c = (h.0, c)
 
-  pub disk_read_safe : (s : State V) (i : ℕ) → Sound s → Safe (disk_read s i)
+  pub disk_read_safe : (s : State V) (i : ℕ) → Sound wide many s → Safe wide many (disk_read s i)
   disk_read_safe s i h = (with_disk_sound s _ h (read_long s.disk i), told_clear Disk i Read (read_answer s.disk i))
 
-  pub disk_write_safe : (s : State V) (i : ℕ) (v : V) → Sound s → Safe (disk_write s i v)
+  pub disk_write_safe : (s : State V) (i : ℕ) (v : V) → Sound wide many s → Safe wide many (disk_write s i v)
   disk_write_safe s i v h = (with_disk_sound s _ h (write_long s.disk i v), told_clear Disk i Write (write_answer s.disk i))
 
-  pub mark_read_safe : (s : State V) (i : ℕ) → Sound s → Safe (mark_read s i)
+  pub mark_read_safe : (s : State V) (i : ℕ) → Sound wide many s → Safe wide many (mark_read s i)
   mark_read_safe s i h = (with_marks_sound s _ h (read_long s.marks i), told_clear Marks i Read (read_answer s.marks i))
 
-  pub mark_write_safe : (s : State V) (i n : ℕ) → Sound s → Safe (mark_write s i n)
+  pub mark_write_safe : (s : State V) (i n : ℕ) → Sound wide many s → Safe wide many (mark_write s i n)
   mark_write_safe s i n h = (with_marks_sound s _ h (write_long s.marks i n), told_clear Marks i Write (write_answer s.marks i))
 
-  pub local_read_safe : (s : State V) (k i : ℕ) → Sound s → there s.table k ≡ true → Safe (local_read s k i)
+  pub local_read_safe : (s : State V) (k i : ℕ) → Sound wide many s → there s.table k ≡ true → Safe wide many (local_read s k i)
   local_read_safe s k i h th = (with_locals_sound s _ k h (λ b. read_long b i), local_clear s k i Read (λ b. read_answer b i) h th)
 
-  pub local_write_safe : (s : State V) (k i : ℕ) (v : V) → Sound s → there s.table k ≡ true → Safe (local_write s k i v)
+  pub local_write_safe : (s : State V) (k i : ℕ) (v : V) → Sound wide many s → there s.table k ≡ true → Safe wide many (local_write s k i v)
   local_write_safe s k i v h th = (with_locals_sound s _ k h (λ b. write_long b i v), local_clear s k i Write (λ b. write_answer b i) h th)
 
 -- 8 is the answer exactly where the client is not there
@@ -265,9 +272,9 @@ held {Y} t k c g u h =
     by true e th = h th e
     by false e th = clear_exact t k c 11 (record { eight = λ z. omega arith; twelve = λ z. omega arith }) th (λ i _ x _. true_false (sym x ∙ e))
 
-module _ {V : Type 0} where
+module _ {V : Type 0} {wide many : ℕ} where
   -- every cell of a client that is there has a record
-  record_there : (s : State V) (k i : ℕ) → Sound s → there s.table k ≡ true → i < s.table.size → (r : CellRecord) × (cell_of s.table k i ≡ Some r)
+  record_there : (s : State V) (k i : ℕ) → Sound wide many s → there s.table k ≡ true → i < s.table.size → (r : CellRecord) × (cell_of s.table k i ≡ Some r)
   unfolding cell_of
   record_there s k i h th l =
       let z = there_says s.table k th in
@@ -277,17 +284,17 @@ module _ {V : Type 0} where
       let q = c.2 in
       (get_or c.0.cells i new_cell, ap option_flatten (asked_as (λ x. slice_get x.cells i) s.table.clients k ∙ ap (option_map (λ (x : ClientRecord). slice_get x.cells i)) c.1) ∙ slice_get-get_or c.0.cells i new_cell (omega arith))
 
-  abbrev cell_asks : State V → ℕ → ℕ → Bool → Result CellRecord SiteFault
-  cell_asks s k i b = unless b fault.NoCell (ok_or (cell_of s.table k i) fault.NoCell)
-
   -- questions 7, 8, 11 and 12, and then g of the cell's record
-  pub celled : {Y : Type 0} (s : State V) (k i : ℕ) (g : CellRecord → Result Y SiteFault) → Sound s → ((r : CellRecord) → Clear (num (g r)))
+  pub celled : {Y : Type 0} (s : State V) (k i : ℕ) (g : CellRecord → Result Y SiteFault) → Sound wide many s → ((r : CellRecord) → Clear (num (g r)))
       → Exact s.table k (Some i) (num (and_then (admitted s.table k i) g))
   celled {Y} s k i g h cl =
       subst (λ (r : Result Y SiteFault). Exact s.table k (Some i) (num r)) (sym (and_then_then (holding s.table k) _ g))
       (held s.table k (Some i) _ h.fit (λ th hd. by (ltb i s.table.size) refl th))
     where
-      by : (b : Bool) → ltb i s.table.size ≡ b → there s.table k ≡ true → Exact s.table k (Some i) (num (and_then (cell_asks s k i b) g))
+      cell_asks : Bool → Result CellRecord SiteFault
+      cell_asks b = unless b fault.NoCell (ok_or (cell_of s.table k i) fault.NoCell)
+
+      by : (b : Bool) → ltb i s.table.size ≡ b → there s.table k ≡ true → Exact s.table k (Some i) (num (and_then (cell_asks b) g))
       by true e th =
           let l : i < s.table.size = ltb-true _ _ e in
           let r = record_there s k i h th l in
@@ -297,8 +304,8 @@ module _ {V : Type 0} where
           (((λ z. absurd (omega arith)), λ z. true_false (sym th ∙ z)), ((λ _. ltb-false _ _ e), λ _ _ _. refl))
 
   -- a call: its questions r, and what follows
-  pub whole : {X Y : Type 0} (s : State V) (k : ℕ) (c : Option ℕ) (r : Result X SiteFault) (f : State V → X → Outcome V Y) → Sound s → Exact s.table k c (num r)
-      → ((x : X) → r ≡ Ok x → there s.table k ≡ true → Safe (f s x)) → Sound (next s r f).state × Exact s.table k c (num (next s r f).answer)
+  pub whole : {X Y : Type 0} (s : State V) (k : ℕ) (c : Option ℕ) (r : Result X SiteFault) (f : State V → X → Outcome V Y) → Sound wide many s → Exact s.table k c (num r)
+      → ((x : X) → r ≡ Ok x → there s.table k ≡ true → Safe wide many (f s x)) → Sound wide many (next s r f).state × Exact s.table k c (num (next s r f).answer)
   whole s k c (Err e) f h q go = (h, q)
   whole s k c (Ok x) f h q go = by (there s.table k) refl
     where
@@ -306,6 +313,6 @@ module _ {V : Type 0} where
       past None w th i e a l = cc
       past (Some j) w th i e a l = let e' : j ≡ i = cc in let z = w.1 th a (omega arith) in omega arith
 
-      by : (b : Bool) → there s.table k ≡ b → Sound (f s x).state × Exact s.table k c (num (f s x).answer)
+      by : (b : Bool) → there s.table k ≡ b → Sound wide many (f s x).state × Exact s.table k c (num (f s x).answer)
       by true th = let w = go x refl th in (w.0, clear_exact s.table k c _ w.1 th (past c q.1 th))
       by false th = let z = q.0.1 th in absurd (omega arith)
