@@ -1,5 +1,5 @@
 -- A list of acts is a list of calls: a run does its steps' calls in order, and its rows show their replies.
-use Rattle.std.proofs.Common.{◌≡◌, ℕ, suc, eqb, List, [], ◌∷◌, ◌++◌, length, get_or, set, Some, None, Option, Result, unwrap_or, sym, refl, ap, ◌∙◌, add-one, arith}
+use Rattle.std.proofs.Common.{◌≡◌, ℕ, suc, eqb, List, [], ◌∷◌, ◌++◌, length, get_or, set, Option, Result, unwrap_or, sym, refl, ap, ◌∙◌, add-one, arith}
 use Rattle.std.proofs.lemmas.Bool.{cond_both, eqb-true, and_parts}
 use Rattle.records.specs.Cells.{settled, fresh}
 use Rattle.records.specs.Records.{is_in_journal}
@@ -60,12 +60,10 @@ module _ {V : Type 0} (perform : State V → Call V → Out V) where
   ahead a g w = running w.state (a ∷ w.answers) (g ∷ w.got)
 
   put_ahead : (gs : List V) (g : V) (i : ℕ) (o : Option V) → put_got (g ∷ gs) (suc i) o ≡ g ∷ put_got gs i o
-  put_ahead gs g i None = refl
-  put_ahead gs g i (Some v) = refl
+  put_ahead gs g i o = grind arith
 
   put_here : (gs : List V) (g : V) (o : Option V) → put_got (g ∷ gs) 0 o ≡ unwrap_or o g ∷ gs
-  put_here gs g None = refl
-  put_here gs g (Some v) = refl
+  put_here gs g o = grind arith
 
   shifted : (qs : List (Call V)) (i : ℕ) (a : Answer) (g : V) (w : Running V) → run_from perform qs (suc i) (ahead a g w) ≡ ahead a g (run_from perform qs i w)
   unfolding run_from

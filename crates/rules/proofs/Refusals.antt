@@ -34,9 +34,10 @@ unless_clear false e r c d = c
 none_exact : (t : Records) (k n : ℕ) → Clear n → there t k ≡ true → Exact t k None n
 none_exact t k n c th = clear_exact t k None n c th (λ i e _ _. cc)
 
-and_then_ok : {X : Type 0} (r : Result X SiteFault) → and_then r (λ x. Ok x) ≡ r
-and_then_ok (Ok x) = refl
-and_then_ok (Err e) = refl
+-- questions and nothing more
+alone : {X : Type 0} (t : Records) (k : ℕ) (c : Option ℕ) (r : Result X SiteFault) → Exact t k c (num (and_then r (λ x. Ok x))) → Exact t k c (num r)
+alone t k c (Ok x) e = e
+alone t k c (Err q) e = e
 
 all_sent_clear : (o : Option ℕ) → Clear (num (all_sent o))
 all_sent_clear None = zero_clear
@@ -140,7 +141,7 @@ module _ {V : Type 0} {wide many : ℕ} where
 
   -- a call that takes a cell, admitted
   admitted_exact : (s : State V) (k i : ℕ) → Sound wide many s → Exact s.table k (Some i) (num (admitted s.table k i))
-  admitted_exact s k i h = subst (λ (r : Result CellRecord SiteFault). Exact s.table k (Some i) (num r)) (and_then_ok (admitted s.table k i)) (celled s k i (λ r. Ok r) h (λ r. zero_clear))
+  admitted_exact s k i h = alone s.table k (Some i) (admitted s.table k i) (celled s k i (λ r. Ok r) h (λ r. zero_clear))
 
   read_ends : (s : State V) (k i : ℕ) → Sound wide many s → Ends wide many s (of_cell k i) (replied (read_reply i) (read_call s k i))
   unfolding read_local read_confirmed read_fetched
@@ -241,7 +242,7 @@ module _ {V : Type 0} {wide many : ℕ} where
   invalidate_ends : (s : State V) (k : ℕ) → Sound wide many s → Ends wide many s (of_client k) (swept_out (invalidate_call s k))
   invalidate_ends s k h =
       by (holding s.table k) refl
-      (subst (λ (r : Result (Unit {0}) SiteFault). Exact s.table k None (num r)) (and_then_ok (holding s.table k)) (held s.table k None (Ok tt) h.fit (λ th _. none_exact s.table k 0 zero_clear th)))
+      (alone s.table k None (holding s.table k) (held s.table k None (Ok tt) h.fit (λ th _. none_exact s.table k 0 zero_clear th)))
     where
       by : (r : Result (Unit {0}) SiteFault) → holding s.table k ≡ r → Exact s.table k None (num r) → Ends wide many s (of_client k) (swept_out (sweep_admitted s k r))
       by (Err e) q x = (h, rightly s.table k None _ x)
@@ -253,8 +254,7 @@ module _ {V : Type 0} {wide many : ℕ} where
 
   present_exact : (s : State V) (k : ℕ) → Sound wide many s → Exact s.table k None (num (present s.table k))
   present_exact s k h =
-      subst (λ (r : Result (Unit {0}) SiteFault). Exact s.table k None (num r)) (and_then_ok (present s.table k))
-      (question s.table k None (Ok tt) h.fit (λ th. none_exact s.table k 0 zero_clear th))
+      alone s.table k None (present s.table k) (question s.table k None (Ok tt) h.fit (λ th. none_exact s.table k 0 zero_clear th))
 
   restart_client_ends : (s : State V) (k n : ℕ) → Sound wide many s → Ends wide many s (of_client k) (replied (plain_reply 0) (restart_client_call s k n))
   restart_client_ends s k n h =

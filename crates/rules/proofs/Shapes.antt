@@ -1,11 +1,11 @@
 -- A fit site's parts go on fitting together, so that 8 and 12 are answered only by their own questions.
-use Rattle.std.proofs.Common.{◌≡◌, ℕ, zero, suc, ◌+◌, ◌<◌, ◌≤◌, Bool, true, false, ltb, ◌↔◌, List, [], ◌∷◌, map, length, get_or, set, replicate, Some, None, Ok, Err, Option, Result, sym, refl, ap, ◌∙◌, subst, arith}
+use Rattle.std.proofs.Common.{◌≡◌, ℕ, zero, suc, ◌+◌, ◌<◌, ◌≤◌, Bool, true, false, ltb, ◌↔◌, List, [], ◌∷◌, map, length, get_or, replicate, Some, None, Ok, Err, Option, Result, sym, refl, ap, ◌∙◌, subst, arith}
 use Rattle.std.specs.List.{slice_get}
 use Rattle.std.specs.Option.{is_none, ok_or, option_flatten, option_map}
 use Rattle.std.proofs.lemmas.List.{length-set}
 use Rattle.std.proofs.lemmas.Option.{slice_get-get_or}
 use Rattle.std.proofs.lemmas.Bool.{ltb-true, ltb-false, leb-true, and_parts}
-use Rattle.store.specs.Stores.{Stored, after, read_answer, write_answer, after_read, after_write}
+use Rattle.store.specs.Stores.{Stored, read_answer, write_answer, after_read, after_write}
 use Rattle.store.specs.declared.life.Fault.{Fault}
 use Rattle.records.specs.Cells.{new_cell}
 use Rattle.records.specs.Clients.{asked, changed}
@@ -43,20 +43,16 @@ entry_there g (x ∷ xs) (suc n) y zero e a b = absurd (omega arith)
 entry_there g (x ∷ xs) (suc n) y (suc zero) e a b = (x, refl, cc)
 entry_there g (x ∷ xs) (suc n) y (suc (suc k)) e a b = entry_there g xs n y (suc k) (cc) (omega arith) (omega arith)
 
--- what a store's operations leave has as many cells
-pub kept_long : {X V : Type 0} (r : Result X Fault) (b : Stored V) (xs : List V) → length xs ≡ length b.cells → length (after r b xs).cells ≡ length b.cells
-kept_long (Ok x) b xs e = e
-kept_long (Err x) b xs e = refl
-
 module _ {V : Type 0} where
   abbrev pub cells_count : Stored V → ℕ
   cells_count b = length b.cells
 
+  -- what a store's operations leave has as many cells
   pub read_long : (b : Stored V) (i : ℕ) → cells_count (after_read b i) ≡ cells_count b
-  read_long b i = kept_long (read_answer b i) b b.cells refl
+  read_long b i = grind arith
 
   pub write_long : (b : Stored V) (i : ℕ) (v : V) → cells_count (after_write b i v) ≡ cells_count b
-  write_long b i v = kept_long (write_answer b i) b (set b.cells i v) (length-set b.cells i v)
+  write_long b i v = grind (arith, length-set)
 
 abbrev pub records_count : ClientRecord → ℕ
 records_count c = length c.cells
@@ -173,14 +169,11 @@ module _ {V : Type 0} {wide many : ℕ} (s : State V) (k : ℕ) where
   journal_inside i h e = proper_says (λ c. c.journal) (λ i. i < s.table.size) h (λ c w i q. subst (Inside s.table.size) q w.1) i e
 
 pub zero_clear : Clear 0
-zero_clear = record { eight = λ e. omega arith; twelve = λ e. omega arith }
+zero_clear = grind arith
 
 -- a store's refusal is 18, 19 or 20
 told_clear : {X : Type 0} (w : StoreName) (i : ℕ) (o : Operation) (r : Result X Fault) → Clear (num (told w i o r))
-told_clear w i o (Ok x) = zero_clear
-told_clear Local i o (Err e) = record { eight = λ z. omega arith; twelve = λ z. omega arith }
-told_clear Marks i o (Err e) = record { eight = λ z. omega arith; twelve = λ z. omega arith }
-told_clear Disk i o (Err e) = record { eight = λ z. omega arith; twelve = λ z. omega arith }
+told_clear w i o r = grind arith
 
 pub there_says : (t : Records) (k : ℕ) → there t k ≡ true → (0 < k) × (k ≤ t.count)
 there_says t k h = let a = and_parts _ _ h in (ltb-true _ _ a.0, leb-true _ _ a.1)

@@ -1,5 +1,6 @@
 -- A new fit site satisfies the invariant.
 use Rattle.std.proofs.Common.{◌≡◌, ℕ, zero, suc, ◌+◌, ◌<◌, ◌≤◌, Bool, true, false, ◌&&◌, eqb, ltb, leb, List, length, get_or, replicate, Some, None, Option, sym, refl, ap, ◌∙◌, arith}
+use Rattle.std.proofs.lemmas.Grind.{common_steps}
 use Rattle.std.proofs.lemmas.Bool.{cond_both, leb-true}
 use Rattle.store.specs.Lengths.{all_long}
 use Rattle.store.specs.Stores.{Stored, stored}
@@ -46,9 +47,7 @@ replicated x (suc n) (suc zero) P a b = b
 replicated x (suc n) (suc (suc c)) P a b = replicated x n (suc c) P a b
 
 get_or_new : (n k : ℕ) → get_or (replicate n new_cell) k new_cell ≡ new_cell
-get_or_new zero k = refl
-get_or_new (suc n) zero = refl
-get_or_new (suc n) (suc k) = get_or_new n k
+get_or_new n k = grind (arith, common_steps)
 
 new_client_is : (c : ℕ) (P : Option ClientRecord → Type 0) → P None → P (Some new_client) → P (asked (λ y. y) new_clients c)
 unfolding new_clients

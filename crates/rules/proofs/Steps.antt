@@ -26,7 +26,7 @@ use Rattle.records.specs.declared.records.ClientRecord.{ClientRecord}
 use Rattle.records.specs.declared.records.Flush.{Flush}
 use Rattle.records.specs.declared.fault.SiteFault.{SiteFault}
 use Rattle.records.specs.declared.fault.SiteFault.TheVariants as fault
-use Rattle.rules.proofs.Ways.{followed, by_disk_read, by_mark_read, by_disk_write, by_mark_write, entry, equal_or_not, somebody, nobody_else, unnamed, unheld, was_yes, admitted_says, opening_says, beginning_says, committing_says, closing_says, holding_says}
+use Rattle.rules.proofs.Ways.{followed, by_disk_read, by_mark_read, by_disk_write, by_mark_write, entry, equal_or_not, somebody, nobody_else, unnamed, was_yes, admitted_says, opening_says, beginning_says, committing_says, closing_says, holding_says}
 use Rattle.rules.proofs.Sight.{Client, View, with_client, with_cells, held_by, store_of, client_of, cells_in, journal_in, seen, view, Relocal, same_locals, view_both, view_locals, by_local_read, by_local_write, journal_is, record_is, cell_known, flush_known}
 use Rattle.rules.proofs.Sight as sight
 use Rattle.rules.proofs.Invariant.{Inv, Of, Knows, Filed, mark_at, disk_at, changed, moved, lives, remarked, rewritten, write_own, book_other, check_own, fetch_own, begin_own, journal_else, sent_own, sent_serves, give_own, restart_own, drop_own, open_own, open_other, open_serves, close_own, close_other, close_serves, read_sure, read_fresh, read_disk, unsent_serves}
@@ -70,8 +70,7 @@ module _ {V : Type 0} (blank : V) where
   -- one cell's record was changed to r, and the store to b
   put_cell : (b : Stored V) (o : Option ClientRecord) (k : ℕ) (r : CellRecord)
       → seen b (option_map (λ c. records.with_cells c (set c.cells k r)) o) ≡ record { local = b; cells = set (cells_in o) k r; journal = journal_in o }
-  put_cell b None k r = refl
-  put_cell b (Some x) k r = refl
+  put_cell b o k r = grind arith
 
   abbrev cs : State V → ℕ → List CellRecord
   cs s c = cells_in (client_of s.table c)
@@ -156,8 +155,7 @@ module _ {V : Type 0} (blank : V) where
       }
 
   emptied_client : (b : Stored V) (o : Option ClientRecord) → seen b (option_map (λ c. records.with_journal c None) o) ≡ record { local = b; cells = cells_in o; journal = None }
-  emptied_client b None = refl
-  emptied_client b (Some x) = refl
+  emptied_client b o = grind arith
 
   no_journal : (m : ℕ) (l : Stored V) (xs : List CellRecord) → Filed blank m (record { local = l; cells = xs; journal = None })
   no_journal m l xs k e = cc
@@ -205,8 +203,7 @@ module _ {V : Type 0} (blank : V) where
   given_client : (b : Stored V) (o : Option ClientRecord) (k : ℕ)
       → seen b (option_map (λ c. records.given_up_client c k) o)
       ≡ record { local = b; cells = set (cells_in o) k (dirtied true (get_or (cells_in o) k new_cell)); journal = None }
-  given_client b None k = refl
-  given_client b (Some x) k = refl
+  given_client b o k = grind arith
 
   pub give_up_fine : (s : State V) (b : Book V) (c k t : ℕ) → Kept s b → Fine s.table.size b other (replied (plain_reply k) (give_up_call s c k t))
   give_up_fine s b c k t i =
@@ -231,8 +228,7 @@ module _ {V : Type 0} (blank : V) where
 
   unchecked_client : (b : Stored V) (o : Option ClientRecord)
       → seen b (option_map (λ c. records.with_cells c (map unchecked_cell c.cells)) o) ≡ record { local = b; cells = map unchecked_cell (cells_in o); journal = journal_in o }
-  unchecked_client b None = refl
-  unchecked_client b (Some x) = refl
+  unchecked_client b o = grind arith
 
   filed_unchecked : (s : State V) (b : Book V) (c : ℕ) → Kept s b → Filed blank s.table.size (record { local = store_of s.locals c; cells = map unchecked_cell (cs s c); journal = js s c })
   filed_unchecked s b c i k e = rw (length-map (cs s c) unchecked_cell) (i.filed c k e)
@@ -258,7 +254,7 @@ module _ {V : Type 0} (blank : V) where
               keeps = λ k c' h.
                   entry (λ x. Of blank m v₁ (b k) k c' x) (view s).clients c cl c'
                   (λ e. subst (λ (j : ℕ). Of blank m v₁ (b k) k j cl) (sym e)
-                  (rw (get_or-map unchecked_cell (cs s c) k new_cell, eq-eqb c c refl) (open_own (i.keeps k c h) (unnamed s.table.holder u c) ((i.serves k h).idle (unheld s.table.holder u)))))
+                  (rw (get_or-map unchecked_cell (cs s c) k new_cell, eq-eqb c c refl) (open_own (i.keeps k c h) (unnamed s.table.holder u c) ((i.serves k h).idle (not-true _ u)))))
                   (λ ne. rw (ne_eqb c c' (λ e. ne (sym e))) (open_other (i.keeps k c' h) (unnamed s.table.holder u c')));
               filed = λ c'. entry (Filed blank m) (view s).clients c cl c' (λ _. filed_unchecked s b c i) (λ _. i.filed c');
             }));
@@ -440,8 +436,7 @@ module _ {V : Type 0} (blank : V) where
   restarted_client : (b : Stored V) (o : Option ClientRecord)
       → seen b (option_map (λ c. record { cells = map unchecked_cell (records.soiled c.cells c.journal); journal = None; turn = c.turn; note = None }) o)
       ≡ record { local = b; cells = map unchecked_cell (records.soiled (cells_in o) (journal_in o)); journal = None }
-  restarted_client b None = refl
-  restarted_client b (Some x) = refl
+  restarted_client b o = grind arith
 
   -- the local store of client c renewed
   renewed_locals : (ls : List (Stored V)) (c n : ℕ) → (l : Life) × Relocal ls c (stored (store_of ls c).cells l) (clients.changed (after_renew n) ls c)
@@ -481,8 +476,7 @@ module _ {V : Type 0} (blank : V) where
       }
 
   noted_client : (b : Stored V) (o : Option ClientRecord) (n : Option Flush) → seen b (option_map (λ c. records.with_note c n) o) ≡ record { local = b; cells = cells_in o; journal = journal_in o }
-  noted_client b None n = refl
-  noted_client b (Some x) n = refl
+  noted_client b o n = grind arith
 
   -- a note changes nothing that the invariant speaks of
   note_kept : (s : State V) (b : Book V) (m c : ℕ) (n : Option Flush) → Inv blank m (view s) b → Inv blank m (view (with_note_of s c n)) b

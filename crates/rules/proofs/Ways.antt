@@ -1,8 +1,8 @@
 -- How a proof follows a call: at each question, at each store operation, and at each table entry.
-use Rattle.std.proofs.Common.{◌≡◌, ℕ, zero, suc, ◌+◌, ◌<◌, ◌≤◌, Bool, true, false, cond, eqb, ltb, ◌⊎◌, List, length, get_or, set, is_some, Some, None, Ok, Err, Option, Result, sym, refl, ap, ◌∙◌, subst, inl, inr, arith}
+use Rattle.std.proofs.Common.{◌≡◌, ℕ, zero, suc, ◌+◌, ◌<◌, ◌≤◌, Bool, true, false, cond, eqb, ltb, List, length, get_or, set, is_some, Some, None, Ok, Err, Option, Result, sym, refl, ap, ◌∙◌, subst, ⊎_elim, arith}
 use Rattle.std.specs.List.{slice_get}
 use Rattle.std.specs.Option.{is_none, ok_or}
-use Rattle.std.proofs.lemmas.Bool.{ltb-true, eqb-true, eqb-false, cases_eq}
+use Rattle.std.proofs.lemmas.Bool.{cond_both, ltb-true, eqb-true, eqb-false, cases_eq}
 use Rattle.std.proofs.lemmas.List.{get_or-set_same, get_or-set_other}
 use Rattle.std.proofs.lemmas.Option.{get_or_from_slice_get, slice_get_within, cond_some}
 use Rattle.store.specs.declared.life.Life.{Life}
@@ -28,11 +28,7 @@ followed P s (Err e) f bad go = bad e
 tried : {X V : Type 0} (P : Stored V → Result X Fault → Type 0) (b : Stored V) (xs : List V) (o : Option X)
     → ((e : Fault) → P b (Err e)) → ((x : X) → o ≡ Some x → (l : Life) → P (stored xs l) (Ok x)) → P (after (granted b.life o) b xs) (granted b.life o)
 tried P b xs None bad go = bad OutOfRange
-tried {X} {V} P b xs (Some x) bad go = by_life (alive b.life)
-  where
-    by_life : (t : Bool) → P (after (cond {A = Result X Fault} t (Ok x) (Err NoLife)) b xs) (cond t (Ok x) (Err NoLife))
-    by_life true = go x refl (spent b.life)
-    by_life false = bad NoLife
+tried {X} P b xs (Some x) bad go = cond_both (alive b.life) _ _ (λ (r : Result X Fault). P (after r b xs) r) (λ _. go x refl (spent b.life)) (λ _. bad NoLife)
 
 pub store_read : {V : Type 0} (P : Stored V → Result V Fault → Type 0) (b : Stored V) (i : ℕ) (blank : V)
     → ((e : Fault) → P b (Err e)) → (i < length b.cells → (l : Life) → P (stored b.cells l) (Ok (get_or b.cells i blank))) → P (after_read b i) (read_answer b i)
@@ -63,31 +59,20 @@ module _ {V Y : Type 0} (P : Outcome V Y → Type 0) (s : State V) where
 
 -- an entry of a changed table, and a cell of a changed list
 pub entry : {A : Type 0} (P : A → Type 0) (f : ℕ → A) (i : ℕ) (a : A) (j : ℕ) → (j ≡ i → P a) → ((j ≡ i → ⊥) → P (f j)) → P (put f i a j)
-entry P f i a j same other = go (eqb j i) refl
-  where
-    go : (t : Bool) → eqb j i ≡ t → P (cond t a (f j))
-    go true e = same (eqb-true j i e)
-    go false e = other (eqb-false j i e)
+entry P f i a j same other = cond_both (eqb j i) _ _ P (λ e. same (eqb-true j i e)) (λ e. other (eqb-false j i e))
 
 pub cell : {V : Type 0} (P : V → Type 0) (l : List V) (i : ℕ) (v : V) (j : ℕ) (d : V) → i < length l → (j ≡ i → P v) → ((j ≡ i → ⊥) → P (get_or l j d)) → P (get_or (set l i v) j d)
-cell P l i v j d h same other = go (cases_eq j i)
-  where
-    go : (j ≡ i) ⊎ (j ≡ i → ⊥) → P (get_or (set l i v) j d)
-    go (inl e) = subst (λ (n : ℕ). P (get_or (set l i v) n d)) (sym e) (subst P (sym (get_or-set_same l i v d h)) (same e))
-    go (inr n) = subst P (sym (get_or-set_other l i j v d n)) (other n)
+cell P l i v j d h same other =
+    ⊎_elim
+    (λ e. subst (λ (n : ℕ). P (get_or (set l i v) n d)) (sym e) (subst P (sym (get_or-set_same l i v d h)) (same e)))
+    (λ n. subst P (sym (get_or-set_other l i j v d n)) (other n))
+    (cases_eq j i)
 
 pub equal_or_not : (P : Type 0) (j i : ℕ) → (j ≡ i → P) → ((j ≡ i → ⊥) → P) → P
-equal_or_not P j i same other = go (cases_eq j i)
-  where
-    go : (j ≡ i) ⊎ (j ≡ i → ⊥) → P
-    go (inl e) = same e
-    go (inr n) = other n
+equal_or_not P j i same other = ⊎_elim same other (cases_eq j i)
 
 pub unnamed : (h : Option ℕ) → is_none h ≡ true → (c : ℕ) → names h c ≡ false
 unnamed h e c = grind arith
-
-pub unheld : (h : Option ℕ) → is_none h ≡ true → is_some h ≡ false
-unheld h e = grind arith
 
 -- only one client is named
 pub somebody : (h : Option ℕ) (c : ℕ) → names h c ≡ true → is_some h ≡ true
