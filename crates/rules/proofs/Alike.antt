@@ -18,8 +18,8 @@ module _ {V : Type 0} (blank : V) (s t : State V) (p q : Rows V) where
   left_alike e c =
       let d = run_does blank s p in
       let d' = run_does blank t q in
-      let logs = ap (λ (u : State V). calls_log (called blank) u (run_calls p)) e ∙ ap (calls_log (called blank) t) c in
-      let ends = ap (λ (u : State V). calls_after (called blank) u (run_calls p)) e ∙ ap (calls_after (called blank) t) c in
+      let logs : calls_log (called blank) s (run_calls p) ≡ calls_log (called blank) t (run_calls q) = rw (e, c) in
+      let ends : calls_after (called blank) s (run_calls p) ≡ calls_after (called blank) t (run_calls q) = rw (e, c) in
       record {
         replies = d.1 ∙ logs ∙ sym d'.1;
         records = ap (λ (u : State V). u.table) (d.0 ∙ ends ∙ sym d'.0);

@@ -14,7 +14,7 @@ use Rattle.rules.specs.History.{after}
 use Rattle.rules.specs.Claim.{Fit, Shaped, KeepsShape}
 use Rattle.records.specs.declared.fault.Unfit.{Unfit}
 use Rattle.rules.proofs.Plays.{calls, calls_after, acts_do}
-use Rattle.rules.proofs.Starts.{look_says, replicated, survey_finds}
+use Rattle.rules.proofs.Starts.{look_says, new_client_is, survey_finds}
 use Rattle.rules.proofs.Shapes.{Sound, ProperAt, note_own, journal_inside, cells_count, records_count}
 use Rattle.rules.proofs.Refusals.{all_end}
 
@@ -45,8 +45,8 @@ new_records_count = map_replicate records_count 8 new_client ∙ ap (replicate 8
 
 module _ {V : Type 0} where
   new_proper : (x : Start V) (m k : ℕ) → ProperAt m k (asked (λ c. c) (made x).table.clients k)
-  unfolding new_clients new_client
-  new_proper x m k = replicated new_client 8 k (ProperAt m k) tt (tt, tt)
+  unfolding new_client
+  new_proper x m k = new_client_is k (ProperAt m k) tt (tt, tt)
 
   new_size : (x : Start V) → Fit x → (made x).table.size ≡ length x.disk.cells
   new_size x e = ap (λ (u : Option Unfit). within u (length x.disk.cells)) e

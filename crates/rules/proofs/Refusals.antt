@@ -1,13 +1,12 @@
 -- Each call leaves a sound site, and answers 8 and 12 only by their own questions.
-use Rattle.std.proofs.Common.{◌≡◌, ℕ, zero, suc, ◌+◌, Bool, true, false, cond, eqb, ltb, ◌↔◌, List, map, length, get_or, set, Some, None, Ok, Err, Option, Result, sym, refl, ap, ◌∙◌, subst, arith}
-use Rattle.std.specs.Option.{is_none, ok_or}
+use Rattle.std.proofs.Common.{◌≡◌, ℕ, zero, suc, ◌+◌, Bool, true, false, cond, ◌↔◌, List, map, length, get_or, set, Some, None, Ok, Err, Option, Result, sym, refl, ap, ◌∙◌, subst, arith}
 use Rattle.std.proofs.lemmas.List.{length-set, length-map}
-use Rattle.std.proofs.lemmas.Bool.{cond_both, false_from_ne_true, eqb-false, eq-eqb, lt-ltb, le-leb}
+use Rattle.std.proofs.lemmas.Bool.{cond_both, false_from_ne_true, eq-eqb, lt-ltb, le-leb}
 use Rattle.store.specs.Stores.{after_renew}
 use Rattle.records.specs.Clients.{changed}
 use Rattle.records.specs.Faults.{says}
 use Rattle.records.specs.Cells.{new_cell, settled, fresh, sweeps, swept_cell, unchecked_cell, dirtied}
-use Rattle.records.specs.Records.{Records, top, cell_of, journal_of, note_of, turn_of, flushing, unsent_at, is_in_journal, with_cells, with_cell, with_journal, with_note, unchecked_client, begun_client, soiled, soiled_at, given_up_client, restarted_client}
+use Rattle.records.specs.Records.{Records, cell_of, note_of, is_in_journal, with_cells, with_cell, with_journal, with_note, unchecked_client, begun_client, soiled, soiled_at, given_up_client, restarted_client}
 use Rattle.records.specs.Questions.{and_then, unless, there, present, holding, admitted, opening, beginning, committing, giving_up, closing, all_sent, first_from, taken_place, taking_to_commit, taking_to_give_up}
 use Rattle.records.specs.Questions as questions
 use Rattle.rules.specs.Site.{State, Outcome, outcome, next, with_table, with_disk, with_locals, disk_read, disk_write, mark_read, mark_write, local_read, local_write}
@@ -19,16 +18,8 @@ use Rattle.rules.specs.Claim.{Asking, nobody, of_client, of_cell, asking, IsTher
 use Rattle.records.specs.declared.records.CellRecord.{CellRecord}
 use Rattle.records.specs.declared.records.Flush.{Flush}
 use Rattle.records.specs.declared.fault.SiteFault.{SiteFault}
-use Rattle.records.specs.declared.fault.SiteFault.TheVariants as fault
 use Rattle.rules.proofs.Ways.{followed, went_on, was_there, beginning_says}
-use Rattle.rules.proofs.Shapes.{Sound, Own, note_own, num, Clear, zero_clear, Safe, safe_then, EightIs, Exact, true_false, there_says, clear_exact, question, held, celled, whole, with_disk_sound, with_marks_sound, with_locals_sound, with_client_sound, disk_read_safe, disk_write_safe, mark_read_safe, mark_write_safe, local_read_safe, local_write_safe}
-
-clear_lit : (n : ℕ) → eqb n 8 ≡ false → eqb n 12 ≡ false → Clear n
-clear_lit n e f = record { eight = eqb-false n 8 e; twelve = eqb-false n 12 f }
-
-unless_clear : {X : Type 0} (b : Bool) (e : SiteFault) (r : Result X SiteFault) → Clear (says e).number → Clear (num r) → Clear (num (unless b e r))
-unless_clear true e r c d = d
-unless_clear false e r c d = c
+use Rattle.rules.proofs.Shapes.{Sound, Own, note_own, num, Clear, zero_clear, Safe, safe_then, EightIs, Exact, there_says, clear_exact, question, held, celled, whole, with_disk_sound, with_marks_sound, with_locals_sound, with_client_sound, disk_read_safe, disk_write_safe, mark_read_safe, mark_write_safe, local_read_safe, local_write_safe}
 
 -- a clear answer of a call that takes no cell
 none_exact : (t : Records) (k n : ℕ) → Clear n → there t k ≡ true → Exact t k None n
@@ -39,17 +30,9 @@ alone : {X : Type 0} (t : Records) (k : ℕ) (c : Option ℕ) (r : Result X Site
 alone t k c (Ok x) e = e
 alone t k c (Err q) e = e
 
-all_sent_clear : (o : Option ℕ) → Clear (num (all_sent o))
-all_sent_clear None = zero_clear
-all_sent_clear (Some i) = clear_lit 17 refl refl
-
 soiled_long : (xs : List CellRecord) (j : Option ℕ) → length (map unchecked_cell (soiled xs j)) ≡ length xs
 soiled_long xs None = length-map xs unchecked_cell
 soiled_long xs (Some j) = length-map (soiled_at xs j) unchecked_cell ∙ length-set xs j (dirtied true (get_or xs j new_cell))
-
-taken_clear : (o : Option Flush) → Clear (num (ok_or o fault.NoFlush))
-taken_clear None = clear_lit 16 refl refl
-taken_clear (Some n) = zero_clear
 
 abbrev stop_num : Result ℕ Stopped → ℕ
 stop_num (Ok n) = 0
@@ -88,7 +71,7 @@ not_there : (t : Records) (k : ℕ) → (IsThere t k → ⊥) → there t k ≡ 
 not_there t k w = false_from_ne_true (there t k) (λ e. w (there_says t k e))
 
 eight : (t : Records) (k n : ℕ) → EightIs t k n → (n ≡ 8) ↔ (IsThere t k → ⊥)
-eight t k n q = ((λ e w. true_false (sym (there_true t k w) ∙ q.0 e)), λ w. q.1 (not_there t k w))
+eight t k n q = ((λ e w. let y = there_true t k w in let n = q.0 e in cc), λ w. q.1 (not_there t k w))
 
 rightly : (t : Records) (k : ℕ) (c : Option ℕ) (n : ℕ) → Exact t k c n → Rightly t (about k c) n
 rightly t k None n q = (eight t k n q.0, q.1)
@@ -123,7 +106,7 @@ module _ {V : Type 0} {wide many : ℕ} where
 
   -- an outcome of a client that is there, and of a call that takes no cell, is safe
   exact_safe : {X : Type 0} (s : State V) (k : ℕ) (o : Outcome V X) → there s.table k ≡ true → Sound wide many o.state × Exact s.table k None (num o.answer) → Safe wide many o
-  exact_safe s k o th h = (h.0, record { eight = λ e. true_false (sym th ∙ h.1.0.0 e); twelve = h.1.1 })
+  exact_safe s k o th h = (h.0, record { eight = λ e. let n = h.1.0.0 e in cc; twelve = h.1.1 })
 
   with_cell_sound : (s : State V) (k i : ℕ) (r : CellRecord) → Sound wide many s → Sound wide many (with_table s (with_cell s.table k i r))
   with_cell_sound s k i r h = with_client_sound s s.table.session s.table.holder (λ c. with_cells c (set c.cells i r)) k h (λ c. length-set c.cells i r) (λ c w. w)
@@ -136,7 +119,7 @@ module _ {V : Type 0} {wide many : ℕ} where
       exact_ends open_reply (open_num V) s k None (open_call s k)
       (whole s k None (opening s.table k) _ h
       (question s.table k None _ h.fit
-      (λ th. none_exact s.table k _ (unless_clear (is_none s.table.holder) fault.Held _ (clear_lit 9 refl refl) (unless_clear (ltb s.table.session top) fault.SessionsUsed (Ok (s.table.session + 1)) (clear_lit 10 refl refl) zero_clear)) th))
+      (λ th. none_exact s.table k _ (grind arith) th))
       (λ n _ th. (with_client_sound s n (Some k) unchecked_client k h (λ c. length-map c.cells unchecked_cell) (λ c w. w), zero_clear)))
 
   -- a call that takes a cell, admitted
@@ -170,8 +153,7 @@ module _ {V : Type 0} {wide many : ℕ} where
   begin_exact s k i h =
       whole s k (Some i) (beginning s.table k i) _ h
       (celled s k i _ h
-      (λ r. unless_clear (is_none (journal_of s.table k)) fault.JournalUsed _ (clear_lit 13 refl refl)
-      (unless_clear r.dirty fault.NotDirty _ (clear_lit 14 refl refl) (unless_clear (ltb (turn_of s.table k) top) fault.TurnsUsed (Ok (r, turn_of s.table k + 1)) (clear_lit 15 refl refl) zero_clear))))
+      (λ r. grind arith))
       λ x e th.
       safe_then (local_read s k i) _ (local_read_safe s k i h th) λ v h₁.
       let s₁ : State V = (local_read s k i).state in
@@ -194,7 +176,7 @@ module _ {V : Type 0} {wide many : ℕ} where
   commit_exact : (blank : V) (s : State V) (k i n : ℕ) → Sound wide many s → Sound wide many (commit_call blank s k i n).state × Exact s.table k None (num (commit_call blank s k i n).answer)
   commit_exact blank s k i n h =
       whole s k None (committing s.table k i n) _ h
-      (held s.table k None _ h.fit (λ th _. none_exact s.table k _ (unless_clear (flushing s.table k i n) fault.NoFlush (Ok tt) (clear_lit 16 refl refl) zero_clear) th))
+      (held s.table k None _ h.fit (λ th _. none_exact s.table k _ (grind arith) th))
       λ _ _ th.
       let m : ℕ = s.table.size in
       safe_then (local_read s k m) _ (local_read_safe s k m h th) λ v h₁.
@@ -208,14 +190,14 @@ module _ {V : Type 0} {wide many : ℕ} where
 
   give_up_safe : (s : State V) (k i n : ℕ) → Sound wide many s → Safe wide many (give_up_call s k i n)
   give_up_safe s k i n h =
-      safe_then (outcome s (giving_up s.table k i n)) _ (h, unless_clear (flushing s.table k i n) fault.NoFlush (Ok tt) (clear_lit 16 refl refl) zero_clear) λ _ _.
+      safe_then (outcome s (giving_up s.table k i n)) _ (h, grind arith) λ _ _.
       (with_client_sound s s.table.session s.table.holder (λ c. given_up_client c i) k h (λ c. length-set c.cells i (dirtied true (get_or c.cells i new_cell))) (λ c w. (w.0, tt)), zero_clear)
 
   close_ends : (s : State V) (k : ℕ) → Sound wide many s → Ends wide many s (of_client k) (replied (plain_reply 0) (close_call s k))
   close_ends s k h =
       exact_ends (plain_reply 0) (plain_num V 0) s k None (close_call s k)
       (whole s k None (closing s.table k) _ h
-      (held s.table k None _ h.fit (λ th _. none_exact s.table k _ (all_sent_clear (first_from (unsent_at s.table k) s.table.size 0)) th))
+      (held s.table k None _ h.fit (λ th _. none_exact s.table k _ (grind arith) th))
       (λ _ _ th. (with_client_sound s s.table.session None unchecked_client k h (λ c. length-map c.cells unchecked_cell) (λ c w. w), zero_clear)))
 
   sweep_cell_safe : (s : State V) (k i : ℕ) → Sound wide many s → Safe wide many (sweep_cell s k i)
@@ -264,7 +246,7 @@ module _ {V : Type 0} {wide many : ℕ} where
 
   restart_server_safe : (s : State V) (n m : ℕ) → Sound wide many s → Safe wide many (restart_server_call s n m)
   restart_server_safe s n m h =
-      safe_then (outcome s (questions.fit s.table)) _ (h, unless_clear (is_none s.table.unfit) fault.Unfit (Ok tt) (clear_lit 7 refl refl) zero_clear) λ _ _.
+      safe_then (outcome s (questions.fit s.table)) _ (h, grind arith) λ _ _.
       (with_marks_sound (with_disk s (after_renew n s.disk)) (after_renew m s.marks) (with_disk_sound s (after_renew n s.disk) h refl) refl, zero_clear)
 
   commit_step_ends : (blank : V) (s : State V) (k : ℕ) → Sound wide many s → Ends wide many s (of_client k) (replied (plain_reply (taken_place (taking_to_commit s.table k))) (commit_step blank s k))
@@ -272,7 +254,7 @@ module _ {V : Type 0} {wide many : ℕ} where
   commit_step_ends blank s k h =
       exact_ends (plain_reply _) (plain_num V _) s k None (commit_step blank s k)
       (whole s k None (taking_to_commit s.table k) _ h
-      (held s.table k None _ h.fit (λ th _. none_exact s.table k _ (taken_clear (note_of s.table k)) th))
+      (held s.table k None _ h.fit (λ th _. none_exact s.table k _ (grind arith) th))
       λ n e th.
       let own : n.client ≡ k = note_own s k n h (was_there (note_of s.table k) _ n (went_on (holding s.table k) _ n e).2) in
       let s₁ : State V = with_note_of s k None in
@@ -288,7 +270,7 @@ module _ {V : Type 0} {wide many : ℕ} where
   give_up_step_ends s k h =
       exact_ends (plain_reply _) (plain_num V _) s k None (give_up_step s k)
       (whole s k None (taking_to_give_up s.table k) _ h
-      (question s.table k None _ h.fit (λ th. none_exact s.table k _ (taken_clear (note_of s.table k)) th))
+      (question s.table k None _ h.fit (λ th. none_exact s.table k _ (grind arith) th))
       (λ n _ th. give_up_safe (with_note_of s k None) n.client n.cell n.turn (with_note_sound s k None tt h)))
 
   pub all_end : (blank : V) (s : State V) (q : Call V) → Sound wide many s → Ends wide many s (asking q) (called blank s q)

@@ -229,13 +229,10 @@ TwelveIs t k (Some i) n = (n ≡ 12 → t.size ≤ i) × (there t k ≡ true →
 abbrev pub Exact : Records → ℕ → Option ℕ → ℕ → Type 0
 Exact t k c n = EightIs t k n × TwelveIs t k c n
 
-pub true_false : {P : Type 0} → ◌≡◌ {A = Bool} true false → P
-true_false e = cc
-
 -- a number that is neither, where the client is there and the cell is below the number of cells
 pub clear_exact : (t : Records) (k : ℕ) (c : Option ℕ) (n : ℕ) → Clear n → there t k ≡ true → ((i : ℕ) → c ≡ Some i → names t.holder k ≡ true → t.size ≤ i → ⊥) → Exact t k c n
-clear_exact t k None n h th w = (((λ e. absurd (h.eight e)), λ e. true_false (sym th ∙ e)), h.twelve)
-clear_exact t k (Some i) n h th w = (((λ e. absurd (h.eight e)), λ e. true_false (sym th ∙ e)), ((λ e. absurd (h.twelve e)), λ _ x y. absurd (w i refl x y)))
+clear_exact t k None n h th w = (((λ e. absurd (h.eight e)), λ e. cc), h.twelve)
+clear_exact t k (Some i) n h th w = (((λ e. absurd (h.eight e)), λ e. cc), ((λ e. absurd (h.twelve e)), λ _ x y. absurd (w i refl x y)))
 
 and_then_then : {X Y Z : Type 0} (r : Result X SiteFault) (f : X → Result Y SiteFault) (g : Y → Result Z SiteFault) → and_then (and_then r f) g ≡ and_then r (λ x. and_then (f x) g)
 and_then_then (Ok x) f g = refl
@@ -252,7 +249,7 @@ question {Y} t k c g u h =
       where
         absent : (x : Option ℕ) → TwelveIs t k x 8
         absent None = λ z. omega arith
-        absent (Some i) = ((λ z. absurd (omega arith)), λ z. true_false (sym z ∙ e))
+        absent (Some i) = ((λ z. absurd (omega arith)), λ z. cc)
 
 -- questions 7, 8 and 11, and then g
 pub held : {Y : Type 0} (t : Records) (k : ℕ) (c : Option ℕ) (g : Result Y SiteFault) → t.unfit ≡ None → (there t k ≡ true → names t.holder k ≡ true → Exact t k c (num g))
@@ -263,7 +260,7 @@ held {Y} t k c g u h =
   where
     by : (b : Bool) → names t.holder k ≡ b → there t k ≡ true → Exact t k c (num (and_then (asks b fault.NotHolding) (λ _. g)))
     by true e th = h th e
-    by false e th = clear_exact t k c 11 (record { eight = λ z. omega arith; twelve = λ z. omega arith }) th (λ i _ x _. true_false (sym x ∙ e))
+    by false e th = clear_exact t k c 11 (grind arith) th (λ i _ x _. cc)
 
 module _ {V : Type 0} {wide many : ℕ} where
   -- every cell of a client that is there has a record
@@ -294,7 +291,7 @@ module _ {V : Type 0} {wide many : ℕ} where
           subst (λ (o : Option CellRecord). Exact s.table k (Some i) (num (and_then (ok_or o fault.NoCell) g))) (sym r.1)
           (clear_exact s.table k (Some i) _ (cl r.0) th (λ j q _ y. let q' : i ≡ j = cc in omega arith))
       by false e th =
-          (((λ z. absurd (omega arith)), λ z. true_false (sym th ∙ z)), ((λ _. ltb-false _ _ e), λ _ _ _. refl))
+          (((λ z. absurd (omega arith)), λ z. cc), ((λ _. ltb-false _ _ e), λ _ _ _. refl))
 
   -- a call: its questions r, and what follows
   pub whole : {X Y : Type 0} (s : State V) (k : ℕ) (c : Option ℕ) (r : Result X SiteFault) (f : State V → X → Outcome V Y) → Sound wide many s → Exact s.table k c (num r)

@@ -1,5 +1,5 @@
 -- What the invariant looks at: each client's store, cells and journal, by client number.
-use Rattle.std.proofs.Common.{◌≡◌, ℕ, zero, suc, ◌<◌, true, false, List, [], ◌∷◌, length, get_or, set, Some, None, Ok, Err, Option, Result, unwrap_or, sym, refl, ap, ◌∙◌, subst}
+use Rattle.std.proofs.Common.{◌≡◌, ℕ, zero, suc, ◌<◌, true, false, List, [], ◌∷◌, length, get_or, set, Some, None, Ok, Err, Option, Result, unwrap_or, sym, refl, ap, ◌∙◌, subst, arith}
 use Rattle.std.specs.List.{slice_get}
 use Rattle.std.specs.Option.{option_flatten, option_map}
 use Rattle.store.specs.declared.life.Life.{Life}
@@ -182,19 +182,11 @@ module _ {V Y : Type 0} (P : Outcome V Y → Type 0) (s : State V) (c : ℕ) whe
 -- what the table's answers say of a client
 pub journal_is : (t : Records) (c : ℕ) → journal_of t c ≡ journal_in (client_of t c)
 unfolding journal_of
-journal_is t c = ap option_flatten (asked_as (λ x. x.journal) t.clients c) ∙ by (client_of t c)
-  where
-    by : (o : Option ClientRecord) → option_flatten (option_map (λ (x : ClientRecord). x.journal) o) ≡ journal_in o
-    by None = refl
-    by (Some x) = refl
+journal_is t c = ap option_flatten (asked_as (λ x. x.journal) t.clients c) ∙ grind arith
 
 pub record_is : (t : Records) (c i : ℕ) → record_of t c i ≡ get_or (cells_in (client_of t c)) i new_cell
 unfolding cell_of
-record_is t c i = ap (λ o. unwrap_or (option_flatten o) new_cell) (asked_as (λ x. slice_get x.cells i) t.clients c) ∙ by (client_of t c)
-  where
-    by : (o : Option ClientRecord) → unwrap_or (option_flatten (option_map (λ (x : ClientRecord). slice_get x.cells i) o)) new_cell ≡ get_or (cells_in o) i new_cell
-    by None = refl
-    by (Some x) = unwrap_or-slice_get x.cells i new_cell
+record_is t c i = ap (λ o. unwrap_or (option_flatten o) new_cell) (asked_as (λ x. slice_get x.cells i) t.clients c) ∙ grind (arith, unwrap_or-slice_get)
 
 pub cell_known : (t : Records) (c i : ℕ) (r : CellRecord) → cell_of t c i ≡ Some r → (get_or (cells_in (client_of t c)) i new_cell ≡ r) × (i < length (cells_in (client_of t c)))
 unfolding cell_of

@@ -40,7 +40,7 @@ new_keeps : {V : Type 0} (n x : ℕ) (d l j : V) → Keeps false false n x d d s
 new_keeps n x d l j = grind arith
 
 -- a new client's record
-pub replicated : (x : ClientRecord) (n c : ℕ) (P : Option ClientRecord → Type 0) → P None → P (Some x) → P (asked (λ y. y) (replicate n x) c)
+replicated : (x : ClientRecord) (n c : ℕ) (P : Option ClientRecord → Type 0) → P None → P (Some x) → P (asked (λ y. y) (replicate n x) c)
 replicated x zero c P a b = a
 replicated x (suc n) zero P a b = a
 replicated x (suc n) (suc zero) P a b = b
@@ -49,7 +49,7 @@ replicated x (suc n) (suc (suc c)) P a b = replicated x n (suc c) P a b
 get_or_new : (n k : ℕ) → get_or (replicate n new_cell) k new_cell ≡ new_cell
 get_or_new n k = grind (arith, common_steps)
 
-new_client_is : (c : ℕ) (P : Option ClientRecord → Type 0) → P None → P (Some new_client) → P (asked (λ y. y) new_clients c)
+pub new_client_is : (c : ℕ) (P : Option ClientRecord → Type 0) → P None → P (Some new_client) → P (asked (λ y. y) new_clients c)
 unfolding new_clients
 new_client_is c P a b = replicated new_client 8 c P a b
 
