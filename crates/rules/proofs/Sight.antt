@@ -190,16 +190,12 @@ record_is t c i = ap (λ o. unwrap_or (option_flatten o) new_cell) (asked_as (λ
 
 pub cell_known : (t : Records) (c i : ℕ) (r : CellRecord) → cell_of t c i ≡ Some r → (get_or (cells_in (client_of t c)) i new_cell ≡ r) × (i < length (cells_in (client_of t c)))
 unfolding cell_of
-cell_known t c i r e = by (client_of t c) (sym (ap option_flatten (asked_as (λ x. slice_get x.cells i) t.clients c)) ∙ e)
-  where
-    by : (o : Option ClientRecord) → option_flatten (option_map (λ (x : ClientRecord). slice_get x.cells i) o) ≡ Some r → (get_or (cells_in o) i new_cell ≡ r) × (i < length (cells_in o))
-    by None q = cc
-    by (Some x) q = (get_or_from_slice_get x.cells i r new_cell q, slice_get_within x.cells i r q)
+cell_known t c i r e =
+    let q : option_flatten (option_map (λ (x : ClientRecord). slice_get x.cells i) (client_of t c)) ≡ Some r = sym (ap option_flatten (asked_as (λ x. slice_get x.cells i) t.clients c)) ∙ e in
+    grind (arith, get_or_from_slice_get, slice_get_within)
 
 pub flush_known : (t : Records) (c i n : ℕ) → flushing t c i n ≡ true → names (journal_in (client_of t c)) i ≡ true
 unfolding flushing
-flush_known t c i n e = by (client_of t c) (sym (ap (λ o. unwrap_or o false) (asked_as (λ x. flush_is x i n) t.clients c)) ∙ e)
-  where
-    by : (o : Option ClientRecord) → unwrap_or (option_map (λ (x : ClientRecord). flush_is x i n) o) false ≡ true → names (journal_in o) i ≡ true
-    by None q = cc
-    by (Some x) q = (and_parts _ _ q).0
+flush_known t c i n e =
+    let q : unwrap_or (option_map (λ (x : ClientRecord). flush_is x i n) (client_of t c)) false ≡ true = sym (ap (λ o. unwrap_or o false) (asked_as (λ x. flush_is x i n) t.clients c)) ∙ e in
+    grind (arith, and_parts)
