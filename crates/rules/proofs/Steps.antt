@@ -56,21 +56,16 @@ module _ {V : Type 0} (blank : V) where
   bad {m} {b} {q} {s} e p n z i = record { size = z; inv = rw (fault_nonzero e) i; right = right_refused b q (plain (refused p n e)) (fault_nonzero e) }
 
   -- client c's store was changed to l and its record by f, which the invariant sees as cl
-  seen_as : {m : ℕ} {b : Book V} {ls : List (Stored V)} {l : Stored V} {cl : Client V} (s : State V) (c : ℕ) (f : ClientRecord → ClientRecord) → Relocal s.locals c l ls
+  seen_as : {m : ℕ} {b : Book V} {ls : List (Stored V)} {l : Stored V} (s : State V) (c : ℕ) (f : ClientRecord → ClientRecord) (cl : Client V) → Relocal s.locals c l ls
       → seen l (option_map f (client_of s.table c)) ≡ cl → Inv blank m (with_client (view s) c cl) b
       → Inv blank m (view (with_table (with_locals s ls) (records.with_clients s.table (clients.changed f s.table.clients c)))) b
-  seen_as {m} {b} {ls} {l} {cl} s c f r e i = subst (λ (u : View V). Inv blank m u b) (sym (view_both s ls f c l r ∙ ap (with_client (view s) c) e)) i
+  seen_as {m} {b} {ls} {l} s c f cl r e i = subst (λ (u : View V). Inv blank m u b) (sym (view_both s ls f c l r ∙ ap (with_client (view s) c) e)) i
 
   -- the local store has another life
   aged_local : (s : State V) (b : Book V) (c : ℕ) (l : Life) (ls : List (Stored V)) → Relocal s.locals c (stored (store_of s.locals c).cells l) ls → Kept s b → Kept (with_locals s ls) b
   aged_local s b c l ls r i =
       subst (λ (v : View V). Inv blank s.table.size v b) (sym (view_locals s ls c _ r))
       (changed blank s.table.size (view s) b c _ i (λ k h. i.keeps k c h) (i.filed c))
-
-  -- one cell's record was changed to r, and the store to b
-  put_cell : (b : Stored V) (o : Option ClientRecord) (k : ℕ) (r : CellRecord)
-      → seen b (option_map (λ c. records.with_cells c (set c.cells k r)) o) ≡ record { local = b; cells = set (cells_in o) k r; journal = journal_in o }
-  put_cell b o k r = grind arith
 
   abbrev cs : State V → ℕ → List CellRecord
   cs s c = cells_in (client_of s.table c)
@@ -97,7 +92,7 @@ module _ {V : Type 0} (blank : V) where
       record {
         size = refl;
         inv =
-            seen_as s c _ rel (put_cell _ (client_of s.table c) k r)
+            seen_as s c _ cl rel (grind arith)
             (moved blank m (view s) b c k cl (record { last = v; stage = waiting }) i
             (λ _. unsent_serves (i.serves k h) (somebody s.table.holder c y.0) v waiting refl)
             (λ _. rw (get_or-set_same (cs s c) k r new_cell w.1, get_or-set_same xs k v blank z, get_or-set_other xs k m v blank n) (write_own (i.keeps k c h) y.0 v))
@@ -112,11 +107,6 @@ module _ {V : Type 0} (blank : V) where
       → Knows blank s.table.size (view s) (b k) k c ((view s).clients c) x (mark_at (view s) k) (disk_at blank s.table.size (view s) k)
   own_keeps s b c k x i h e =
       subst (λ (r : CellRecord). Knows blank s.table.size (view s) (b k) k c ((view s).clients c) r (mark_at (view s) k) (disk_at blank s.table.size (view s) k)) e (i.keeps k c h)
-
-  begun_client : (b : Stored V) (o : Option ClientRecord) (k : ℕ) (r : CellRecord) (n : ℕ) → k < length (cells_in o)
-      → seen b (option_map (λ c. records.begun_client c k r n) o) ≡ record { local = b; cells = set (cells_in o) k (dirtied false r); journal = Some k }
-  begun_client b None k r n h = absurd (omega arith)
-  begun_client b (Some x) k r n h = refl
 
   pub begin_fine : (s : State V) (b : Book V) (c k : ℕ) → Kept s b → Fine s.table.size b (begins k) (replied (begin_reply k) (begin_call s c k))
   begin_fine s b c k i =
@@ -141,7 +131,7 @@ module _ {V : Type 0} (blank : V) where
       record {
         size = refl;
         inv =
-            seen_as s₁ c _ rel' (begun_client _ (client_of s.table c) k x xn.1 w.1)
+            seen_as s₁ c _ cl rel' (grind arith)
             (moved blank m (view s₁) b c k cl (staged (b k) begun) i₁
             (λ _. unsent_serves (i₁.serves k h) (somebody s.table.holder c y.0) (b k).last begun refl)
             (λ _. rw (get_or-set_same (cs s c) k r new_cell w.1, get_or-set_other xs m k v blank n, get_or-set_same xs m v blank z, eq-eqb k k refl, same) (begin_own (own_keeps s₁ b c k x i₁ h w.0) y.0 y.4))
@@ -153,9 +143,6 @@ module _ {V : Type 0} (blank : V) where
             (λ k' e. rw (length-set (cs s c) k r) (subst (λ (n : ℕ). n < length (cs s c)) (eqb-true k k' e) w.1)));
         right = tt;
       }
-
-  emptied_client : (b : Stored V) (o : Option ClientRecord) → seen b (option_map (λ c. records.with_journal c None) o) ≡ record { local = b; cells = cells_in o; journal = None }
-  emptied_client b o = grind arith
 
   no_journal : (m : ℕ) (l : Stored V) (xs : List CellRecord) → Filed blank m (record { local = l; cells = xs; journal = None })
   no_journal m l xs k e = cc
@@ -186,7 +173,7 @@ module _ {V : Type 0} (blank : V) where
       record {
         size = refl;
         inv =
-            seen_as s₃ c _ rel' (emptied_client _ (client_of s.table c))
+            seen_as s₃ c _ cl rel' (grind arith)
             (moved blank m (view s₃) b c k cl (staged (b k) (after_sending (b k).stage)) i₃
             (λ h. sent_serves (i₃.keeps k c h) (i₃.serves k h) mine (somebody s.table.holder c mine) f e)
             (λ h.
@@ -200,11 +187,6 @@ module _ {V : Type 0} (blank : V) where
         right = tt;
       }
 
-  given_client : (b : Stored V) (o : Option ClientRecord) (k : ℕ)
-      → seen b (option_map (λ c. records.given_up_client c k) o)
-      ≡ record { local = b; cells = set (cells_in o) k (dirtied true (get_or (cells_in o) k new_cell)); journal = None }
-  given_client b o k = grind arith
-
   pub give_up_fine : (s : State V) (b : Book V) (c k t : ℕ) → Kept s b → Fine s.table.size b other (replied (plain_reply k) (give_up_call s c k t))
   give_up_fine s b c k t i =
       let m : ℕ = s.table.size in
@@ -216,7 +198,7 @@ module _ {V : Type 0} (blank : V) where
       record {
         size = refl;
         inv =
-            seen_as s c _ (same_locals s.locals c) (given_client _ (client_of s.table c) k)
+            seen_as s c _ cl (same_locals s.locals c) (grind arith)
             (changed blank m (view s) b c cl i
             (λ k' h'.
             equal_or_not _ k' k
@@ -225,10 +207,6 @@ module _ {V : Type 0} (blank : V) where
             (no_journal m (store_of s.locals c) (set (cs s c) k r)));
         right = tt;
       }
-
-  unchecked_client : (b : Stored V) (o : Option ClientRecord)
-      → seen b (option_map (λ c. records.with_cells c (map unchecked_cell c.cells)) o) ≡ record { local = b; cells = map unchecked_cell (cells_in o); journal = journal_in o }
-  unchecked_client b o = grind arith
 
   filed_unchecked : (s : State V) (b : Book V) (c : ℕ) → Kept s b → Filed blank s.table.size (record { local = store_of s.locals c; cells = map unchecked_cell (cs s c); journal = js s c })
   filed_unchecked s b c i k e = rw (length-map (cs s c) unchecked_cell) (i.filed c k e)
@@ -247,7 +225,7 @@ module _ {V : Type 0} (blank : V) where
       record {
         size = refl;
         inv =
-            seen_as s₁ c _ (same_locals s.locals c) (unchecked_client _ (client_of s.table c))
+            seen_as s₁ c _ cl (same_locals s.locals c) (grind arith)
             (subst (λ (x : ℕ). Inv blank m (with_client (held_by (view s) x (Some c)) c cl) b) (sym raised)
             (record {
               serves = λ k h. open_serves (i.serves k h);
@@ -281,7 +259,7 @@ module _ {V : Type 0} (blank : V) where
       record {
         size = refl;
         inv =
-            seen_as s₁ c _ (same_locals s.locals c) (unchecked_client _ (client_of s.table c))
+            seen_as s₁ c _ cl (same_locals s.locals c) (grind arith)
             (record {
               serves = λ k h. close_serves (i.keeps k c h) (i.serves k h) mine (clean k h).0 (clean k h).1;
               keeps = λ k c' h.
@@ -300,7 +278,7 @@ module _ {V : Type 0} (blank : V) where
   noticed s b c k r i w own =
       let m : ℕ = s.table.size in
       let cl : Client V = record { local = store_of s.locals c; cells = set (cs s c) k r; journal = js s c } in
-      seen_as s c _ (same_locals s.locals c) (put_cell _ (client_of s.table c) k r)
+      seen_as s c _ cl (same_locals s.locals c) (grind arith)
       (changed blank m (view s) b c cl i
       (λ k' h'.
       equal_or_not _ k' k
@@ -358,7 +336,7 @@ module _ {V : Type 0} (blank : V) where
       record {
         size = refl;
         inv =
-            seen_as s₂ c _ rel (put_cell _ (client_of s.table c) k r)
+            seen_as s₂ c _ cl rel (grind arith)
             (changed blank m (view s₂) b c cl i₂
             (λ k' h'.
             equal_or_not _ k' k
@@ -433,11 +411,6 @@ module _ {V : Type 0} (blank : V) where
       by true t = let l : k < length xs = f t in let e : j ≡ k = eqb-true j k t in grind (arith, get_or-set_at)
       by false t = let n : k ≢ j = λ e. eqb-false j k t (sym e) in grind (arith, get_or-set_other)
 
-  restarted_client : (b : Stored V) (o : Option ClientRecord)
-      → seen b (option_map (λ c. record { cells = map unchecked_cell (records.soiled c.cells c.journal); journal = None; turn = c.turn; note = None }) o)
-      ≡ record { local = b; cells = map unchecked_cell (records.soiled (cells_in o) (journal_in o)); journal = None }
-  restarted_client b o = grind arith
-
   -- the local store of client c renewed
   renewed_locals : (ls : List (Stored V)) (c n : ℕ) → (l : Life) × Relocal ls c (stored (store_of ls c).cells l) (clients.changed (after_renew n) ls c)
   renewed_locals ls c n = by (clients.asked (λ x. x) ls c) refl
@@ -468,20 +441,17 @@ module _ {V : Type 0} (blank : V) where
       record {
         size = refl;
         inv =
-            seen_as s c _ z.1 (restarted_client _ (client_of s.table c))
+            seen_as s c _ cl z.1 (grind arith)
             (changed blank m (view s) b c cl i
             (λ k h. rw (get_or_soiled (cs s c) (js s c) k (i.filed c k)) (restart_own (i.keeps k c h)))
             (no_journal m (stored (store_of s.locals c).cells z.0) (map unchecked_cell (records.soiled (cs s c) (js s c)))));
         right = tt;
       }
 
-  noted_client : (b : Stored V) (o : Option ClientRecord) (n : Option Flush) → seen b (option_map (λ c. records.with_note c n) o) ≡ record { local = b; cells = cells_in o; journal = journal_in o }
-  noted_client b o n = grind arith
-
   -- a note changes nothing that the invariant speaks of
   note_kept : (s : State V) (b : Book V) (m c : ℕ) (n : Option Flush) → Inv blank m (view s) b → Inv blank m (view (with_note_of s c n)) b
   note_kept s b m c n i =
-      seen_as s c _ (same_locals s.locals c) (noted_client _ (client_of s.table c) n)
+      seen_as s c _ ((view s).clients c) (same_locals s.locals c) (grind arith)
       (changed blank m (view s) b c _ i (λ k h. i.keeps k c h) (i.filed c))
 
   note_fine : (m : ℕ) (b : Book V) (q : Deed V) (s : State V) (r : Reply V) (c : ℕ) (n : Option Flush) → Fine m b q (out s r) → Fine m b q (out (with_note_of s c n) r)
