@@ -1,12 +1,12 @@
 -- Each call leaves a sound site, and answers 8 and 12 only by their own questions.
-use Rattle.std.proofs.Common.{◌≡◌, ℕ, zero, suc, ◌+◌, Bool, true, false, cond, ◌↔◌, List, map, length, get_or, set, Some, None, Ok, Err, Option, Result, sym, refl, ap, ◌∙◌, subst, arith}
+use Rattle.std.proofs.Common.{◌≡◌, ℕ, zero, suc, ◌+◌, Bool, true, false, cond, ◌↔◌, List, map, length, get_or, set, Some, None, Ok, Err, Option, Result, sym, refl, ap, subst, arith}
 use Rattle.std.proofs.lemmas.List.{length-set, length-map}
 use Rattle.std.proofs.lemmas.Bool.{cond_both, false_from_ne_true, eq-eqb, lt-ltb, le-leb}
 use Rattle.store.specs.Stores.{after_renew}
 use Rattle.records.specs.Clients.{changed}
 use Rattle.records.specs.Faults.{says}
 use Rattle.records.specs.Cells.{new_cell, settled, fresh, sweeps, swept_cell, unchecked_cell, dirtied}
-use Rattle.records.specs.Records.{Records, cell_of, note_of, is_in_journal, with_cells, with_cell, with_journal, with_note, unchecked_client, begun_client, soiled, soiled_at, given_up_client, restarted_client}
+use Rattle.records.specs.Records.{Records, cell_of, note_of, is_in_journal, with_cells, with_cell, with_journal, with_note, unchecked_client, begun_client, soiled, given_up_client, restarted_client}
 use Rattle.records.specs.Questions.{and_then, unless, there, present, holding, admitted, opening, beginning, committing, giving_up, closing, all_sent, first_from, taken_place, taking_to_commit, taking_to_give_up}
 use Rattle.records.specs.Questions as questions
 use Rattle.rules.specs.Site.{State, Outcome, outcome, next, with_table, with_disk, with_locals, disk_read, disk_write, mark_read, mark_write, local_read, local_write}
@@ -31,8 +31,7 @@ alone t k c (Ok x) e = e
 alone t k c (Err q) e = e
 
 soiled_long : (xs : List CellRecord) (j : Option ℕ) → length (map unchecked_cell (soiled xs j)) ≡ length xs
-soiled_long xs None = length-map xs unchecked_cell
-soiled_long xs (Some j) = length-map (soiled_at xs j) unchecked_cell ∙ length-set xs j (dirtied true (get_or xs j new_cell))
+soiled_long xs j = grind (arith, length-map, length-set)
 
 abbrev stop_num : Result ℕ Stopped → ℕ
 stop_num (Ok n) = 0

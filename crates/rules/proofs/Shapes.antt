@@ -1,7 +1,7 @@
 -- A fit site's parts go on fitting together, so that 8 and 12 are answered only by their own questions.
 use Rattle.std.proofs.Common.{◌≡◌, ℕ, zero, suc, ◌+◌, ◌<◌, ◌≤◌, Bool, true, false, ltb, ◌↔◌, List, [], ◌∷◌, map, length, get_or, replicate, Some, None, Ok, Err, Option, Result, sym, refl, ap, ◌∙◌, subst, arith}
 use Rattle.std.specs.List.{slice_get}
-use Rattle.std.specs.Option.{is_none, ok_or, option_flatten, option_map}
+use Rattle.std.specs.Option.{ok_or, option_flatten, option_map}
 use Rattle.std.proofs.lemmas.List.{length-set}
 use Rattle.std.proofs.lemmas.Option.{slice_get-get_or}
 use Rattle.std.proofs.lemmas.Bool.{ltb-true, ltb-false, leb-true, and_parts}
@@ -16,7 +16,6 @@ use Rattle.rules.specs.Site.{State, Outcome, next, ◌then◌, with_table, with_
 use Rattle.records.specs.declared.records.CellRecord.{CellRecord}
 use Rattle.records.specs.declared.records.ClientRecord.{ClientRecord}
 use Rattle.records.specs.declared.records.Flush.{Flush}
-use Rattle.records.specs.declared.fault.Unfit.{Unfit}
 use Rattle.records.specs.declared.fault.SiteFault.{SiteFault}
 use Rattle.records.specs.declared.fault.SiteFault.TheVariants as fault
 use Rattle.records.specs.declared.fault.StoreName.{StoreName}
@@ -241,7 +240,7 @@ and_then_then (Err e) f g = refl
 -- questions 7 and 8, and then g
 pub question : {Y : Type 0} (t : Records) (k : ℕ) (c : Option ℕ) (g : Result Y SiteFault) → t.unfit ≡ None → (there t k ≡ true → Exact t k c (num g)) → Exact t k c (num (and_then (present t k) (λ _. g)))
 question {Y} t k c g u h =
-    subst (λ (o : Option Unfit). Exact t k c (num (and_then (unless (is_none o) fault.Unfit (asks (there t k) fault.NoClient)) (λ _. g)))) (sym u) (by (there t k) refl)
+    rw u (by (there t k) refl)
   where
     by : (b : Bool) → there t k ≡ b → Exact t k c (num (and_then (asks b fault.NoClient) (λ _. g)))
     by true e = h e

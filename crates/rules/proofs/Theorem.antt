@@ -1,9 +1,7 @@
 -- From a new fit site, after any list of acts, reads gave the last writes, and the disk lags only at unsent cells.
 use Rattle.std.proofs.Common.{◌≡◌, ℕ, ◌<◌, true, false, ◌||◌, List, [], ◌∷◌, ◌++◌, map, length, get_or, Some, None, Option, unwrap_or, sym, refl, ap, ◌∙◌, subst, arith}
-use Rattle.std.specs.Option.{option_map}
 use Rattle.std.proofs.lemmas.Bool.{eq-eqb}
 use Rattle.store.specs.Stores.{Stored, stored}
-use Rattle.records.specs.Clients.{asked}
 use Rattle.records.specs.Cells.{new_cell, fresh}
 use Rattle.records.specs.Records.{names, journal_of}
 use Rattle.rules.specs.Site.{State}
@@ -18,7 +16,7 @@ use Rattle.rules.specs.declared.answer.Answer.{Answer}
 use Rattle.records.specs.declared.records.CellRecord.{CellRecord}
 use Rattle.records.specs.declared.fault.Unfit.{Unfit}
 use Rattle.records.proofs.Tables.{asked_as}
-use Rattle.rules.proofs.Sight.{view, store_of, or_no_store, client_of, cells_in, record_is, journal_is}
+use Rattle.rules.proofs.Sight.{view, store_of, client_of, cells_in, record_is, journal_is}
 use Rattle.rules.proofs.Invariant.{Inv, Of, At}
 use Rattle.rules.proofs.Steps.{Fine, clean_at, open_fine, read_fine, write_fine, begin_fine, commit_fine, give_up_fine, close_fine, invalidate_fine, restart_client_fine, restart_server_fine, begin_step_fine, commit_step_fine, give_up_step_fine, no_step_fine}
 use Rattle.rules.proofs.Plays.{calls, calls_after, calls_log, after_joined, log_joined, run_does, acts_do}
@@ -86,11 +84,7 @@ module _ {V : Type 0} (blank : V) where
 
   -- the local cell, as the invariant sees it
   copy_is : (s : State V) (k i : ℕ) → copy_of blank s k i ≡ get_or (store_of s.locals k).cells i blank
-  copy_is s k i = ap (λ (o : Option V). unwrap_or o blank) (asked_as (λ b. get_or b.cells i blank) s.locals k) ∙ by (asked (λ b. b) s.locals k)
-    where
-      by : (o : Option (Stored V)) → unwrap_or (option_map (λ (b : Stored V). get_or b.cells i blank) o) blank ≡ get_or (or_no_store o).cells i blank
-      by None = refl
-      by (Some b) = refl
+  copy_is s k i = ap (λ (o : Option V). unwrap_or o blank) (asked_as (λ b. get_or b.cells i blank) s.locals k) ∙ grind arith
 
   copies_at : (m : ℕ) (s : State V) (b : Book V) → Inv blank m (view s) b → (k i : ℕ) → i < m → CopyTrue blank s k i
   copies_at m s b w k i h e f =

@@ -87,12 +87,10 @@ went_on (Ok x) f y e = (x, refl, e)
 went_on (Err q) f y e = cc
 
 pub was_yes : {X : Type 0} (b : Bool) (q : SiteFault) (r : Result X SiteFault) (x : X) → unless b q r ≡ Ok x → (b ≡ true) × (r ≡ Ok x)
-was_yes true q r x e = (refl, e)
-was_yes false q r x e = cc
+was_yes b q r x e = grind arith
 
 pub was_there : {X : Type 0} (o : Option X) (q : SiteFault) (x : X) → ok_or o q ≡ Ok x → o ≡ Some x
-was_there None q x e = cc
-was_there (Some y) q x e = cc
+was_there o q x e = grind arith
 
 pub ok_same : {X : Type 0} (x y : X) → ◌≡◌ {A = Result X SiteFault} (Ok x) (Ok y) → x ≡ y
 ok_same x y e = cc
@@ -129,8 +127,7 @@ committing_says t k i n x e =
     (holding_says t k h.0 h.1, (was_yes _ _ _ _ h.2).0)
 
 was_none : (o : Option ℕ) (x : Unit {0}) → all_sent o ≡ Ok x → o ≡ None
-was_none None x e = refl
-was_none (Some i) x e = cc
+was_none o x e = grind arith
 
 -- nothing was found among the numbers looked at
 none_found : (p : ℕ → Bool) (n i : ℕ) → first_from p n i ≡ None → (k : ℕ) → i ≤ k → k < i + n → p k ≡ false
