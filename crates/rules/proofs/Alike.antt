@@ -24,7 +24,7 @@ module _ {V : Type 0} (blank : V) (s t : State V) (p q : Rows V) where
         replies = d.1 ∙ logs ∙ sym d'.1;
         records = ap (λ (u : State V). u.table) (d.0 ∙ ends ∙ sym d'.0);
         rows = λ same.
-            let f : ran (called blank) s p ≡ ran (called blank) t q = ap (λ (u : State V). ran (called blank) u p) e ∙ ap (ran (called blank) t) same in
+            let f : ran (called blank) s p ≡ ran (called blank) t q = rw (e, same) in
             (ap (λ (w : Running V). w.answers) f, ap (λ (w : Running V). w.got) f);
       }
 

@@ -48,17 +48,11 @@ module _ {V : Type 0} where
   unfolding new_client
   new_proper x m k = new_client_is k (ProperAt m k) tt (tt, tt)
 
-  new_size : (x : Start V) → Fit x → (made x).table.size ≡ length x.disk.cells
-  new_size x e = ap (λ (u : Option Unfit). within u (length x.disk.cells)) e
-
-  new_count : (x : Start V) → Fit x → (made x).table.count ≡ length x.locals
-  new_count x e = ap (λ (u : Option Unfit). within u (length x.locals)) e
-
   new_sound : (x : Start V) → Fit x → Sound (length x.disk.cells) (length x.locals) (made x)
   new_sound x e =
       let h = survey_says x.disk x.marks x.locals x.session e in
-      let size = new_size x e in
-      let count = new_count x e in
+      let size : (made x).table.size ≡ length x.disk.cells = ap (λ (u : Option Unfit). within u (length x.disk.cells)) e in
+      let count : (made x).table.count ≡ length x.locals = ap (λ (u : Option Unfit). within u (length x.locals)) e in
       record {
         size = size;
         count = count;

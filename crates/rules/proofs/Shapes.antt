@@ -239,8 +239,7 @@ and_then_then (Err e) f g = refl
 
 -- questions 7 and 8, and then g
 pub question : {Y : Type 0} (t : Records) (k : ℕ) (c : Option ℕ) (g : Result Y SiteFault) → t.unfit ≡ None → (there t k ≡ true → Exact t k c (num g)) → Exact t k c (num (and_then (present t k) (λ _. g)))
-question {Y} t k c g u h =
-    rw u (by (there t k) refl)
+question t k c g u h = rw u (by (there t k) refl)
   where
     by : (b : Bool) → there t k ≡ b → Exact t k c (num (and_then (asks b fault.NoClient) (λ _. g)))
     by true e = h e
