@@ -1,12 +1,7 @@
 -- A list of acts is a list of calls: a run does its steps' calls in order, and its rows show their replies.
-use Rattle.std.proofs.Common.{◌≡◌, ℕ, suc, eqb, List, [], ◌∷◌, ◌++◌, length, get_or, set, Option, Result, unwrap_or, sym, refl, ap, ◌∙◌, add-one, arith}
+use Rattle.std.proofs.Common.{◌≡◌, ℕ, suc, eqb, List, [], ◌∷◌, ◌++◌, length, set, Option, Result, unwrap_or, sym, refl, ap, ◌∙◌, add-one, arith}
 use Rattle.std.proofs.lemmas.Bool.{cond_both, eqb-true, and_parts}
-use Rattle.records.specs.Cells.{settled, fresh}
-use Rattle.records.specs.Records.{is_in_journal}
-use Rattle.records.specs.Questions.{admitted}
-use Rattle.store.specs.Stores.{stored}
-use Rattle.rules.specs.Site.{State, Outcome, with_marks, with_disk}
-use Rattle.rules.specs.Calls.{read_call, read_local, read_confirmed, read_fetched}
+use Rattle.rules.specs.Site.{State}
 use Rattle.rules.specs.declared.answer.Source.{Source}
 use Rattle.rules.specs.declared.answer.Stopped.{Stopped}
 use Rattle.rules.specs.Replies.{Call, Reply, Out, open_reply, read_reply, noted_reply, plain_reply, swept_reply, called}
@@ -16,8 +11,6 @@ use Rattle.rules.specs.declared.step.Step.{Step}
 use Rattle.rules.specs.declared.answer.Answer.{Answer}
 use Rattle.records.specs.declared.records.Flush.{Flush}
 use Rattle.records.specs.declared.fault.SiteFault.{SiteFault}
-use Rattle.rules.proofs.Ways.{followed, by_disk_read, by_mark_read}
-use Rattle.rules.proofs.Sight.{by_local_read, by_local_write}
 
 -- the calls of a list of acts
 abbrev pub calls_in : {V : Type 0} → Act V → List (Call V)
@@ -112,28 +105,15 @@ module _ {V : Type 0} (blank : V) where
   swept_shows r g = grind arith
 
   -- an accepted read has a source
-  read_shows : (s : State V) (k i : ℕ) → Shows (read_reply i (read_call s k i).answer)
-  unfolding read_local read_confirmed read_fetched
-  read_shows s k i g =
-      let P : Outcome V (V × Source) → Type 0 = λ o. shown (read_reply i o.answer).answer (unwrap_or (read_reply i o.answer).got g) ≡ read_reply i o.answer in
-      followed P s (admitted s.table k i) _ (λ e. refl) λ r _.
-      cond_both (settled r (is_in_journal s.table k i)) _ _ P
-      (λ _. by_local_read P s k i blank _ (λ e. refl) (λ l ls rel. refl))
-      (λ _.
-      by_mark_read P s i _ (λ e. refl) λ lm.
-      let s₁ : State V = with_marks s (stored s.marks.cells lm) in
-      cond_both (fresh r.kept (get_or s.marks.cells i 0)) _ _ P
-      (λ _. by_local_read P s₁ k i blank _ (λ e. refl) (λ l ls rel. refl))
-      (λ _.
-      by_disk_read P s₁ i blank _ (λ e. refl) λ ld.
-      by_local_write P (with_disk s₁ (stored s.disk.cells ld)) k i (get_or s.disk.cells i blank) _ (λ e. refl) (λ z l ls rel. refl)))
+  read_shows : (i : ℕ) (r : Result (V × Source) SiteFault) → Shows (read_reply i r)
+  read_shows i r g = grind arith
 
   step_shows : (s : State V) (p : Step) (v : V) → Shows (called blank s (call_of p v)).reply
   unfolding called
   step_shows s p v =
       let P : Call V → Type 0 = λ q. Shows (called blank s q).reply in
       cond_both (eqb p.call 1) _ _ P (λ _. open_shows _) λ _.
-      cond_both (eqb p.call 2) _ _ P (λ _. read_shows s p.client p.cell) λ _.
+      cond_both (eqb p.call 2) _ _ P (λ _. read_shows _ _) λ _.
       cond_both (eqb p.call 3) _ _ P (λ _. plain_shows _ _) λ _.
       cond_both (eqb p.call 4) _ _ P (λ _. noted_shows _ _) λ _.
       cond_both (eqb p.call 5) _ _ P (λ _. plain_shows _ _) λ _.
