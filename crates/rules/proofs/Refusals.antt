@@ -1,5 +1,5 @@
 -- Each call leaves a sound site, and answers 8 and 12 only by their own questions.
-use Rattle.std.proofs.Common.{◌≡◌, ℕ, zero, suc, ◌+◌, Bool, true, false, cond, ◌↔◌, List, map, length, get_or, set, Some, None, Ok, Err, Option, Result, sym, refl, ap, subst, arith}
+use Rattle.std.proofs.Common.{◌≡◌, ℕ, zero, suc, ◌+◌, Bool, true, false, cond, ◌↔◌, List, map, length, get_or, set, Some, None, Ok, Err, Option, Result, sym, refl, subst, arith}
 use Rattle.std.proofs.lemmas.List.{length-set, length-map}
 use Rattle.std.proofs.lemmas.Bool.{cond_both, false_from_ne_true, eq-eqb, lt-ltb, le-leb}
 use Rattle.store.specs.Stores.{after_renew}
@@ -18,7 +18,7 @@ use Rattle.rules.specs.Claim.{Asking, nobody, of_client, of_cell, asking, IsTher
 use Rattle.records.specs.declared.records.CellRecord.{CellRecord}
 use Rattle.records.specs.declared.records.Flush.{Flush}
 use Rattle.records.specs.declared.fault.SiteFault.{SiteFault}
-use Rattle.rules.proofs.Ways.{followed, went_on, was_there, beginning_says}
+use Rattle.rules.proofs.Ways.{went_on, was_there, beginning_says}
 use Rattle.rules.proofs.Shapes.{Sound, Own, note_own, num, Clear, zero_clear, Safe, safe_then, EightIs, Exact, there_says, clear_exact, question, held, celled, whole, with_disk_sound, with_marks_sound, with_locals_sound, with_client_sound, disk_read_safe, disk_write_safe, mark_read_safe, mark_write_safe, local_read_safe, local_write_safe}
 
 -- a clear answer of a call that takes no cell
@@ -82,15 +82,7 @@ module _ {V : Type 0} where
 
   -- the slip names the client who began
   begin_names : (s : State V) (k i : ℕ) (n : Flush) → (begin_call s k i).answer ≡ Ok n → n.client ≡ k
-  begin_names s k i =
-      let P : Outcome V Flush → Type 0 = λ o. (n : Flush) → o.answer ≡ Ok n → n.client ≡ k in
-      let bad : (u : State V) (e : SiteFault) → P (outcome u (Err e)) = λ u e n q. cc in
-      followed P s (beginning s.table k i) _ (bad s) λ x _.
-      let s₁ : State V = (local_read s k i).state in
-      followed P s₁ (local_read s k i).answer _ (bad s₁) λ v _.
-      let s₂ : State V = (local_write s₁ k s.table.size v).state in
-      followed P s₂ (local_write s₁ k s.table.size v).answer _ (bad s₂) λ _ _ n q.
-      sym (ap (λ (f : Flush). f.client) (let q' : record { client = k; cell = i; turn = x.1 } ≡ n = cc in q'))
+  begin_names s k i n e = grind arith
 
 module _ {V : Type 0} {wide many : ℕ} where
   exact_ends : {X : Type 0} (reply : Result X SiteFault → Reply V) → ((r : Result X SiteFault) → (reply r).answer.number ≡ num r) → (s : State V) (k : ℕ) (c : Option ℕ) (o : Outcome V X)
