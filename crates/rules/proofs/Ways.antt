@@ -1,5 +1,5 @@
 -- How a proof follows a call: at each question, at each store operation, and at each table entry.
-use Rattle.std.proofs.Common.{◌≡◌, ℕ, zero, suc, ◌+◌, ◌<◌, ◌≤◌, Bool, true, false, cond, eqb, ltb, List, length, get_or, set, is_some, Some, None, Ok, Err, Option, Result, sym, refl, ap, ◌∙◌, subst, ⊎_elim, arith}
+use Rattle.std.proofs.Common.{◌≡◌, ℕ, zero, suc, ◌+◌, ◌<◌, ◌≤◌, Bool, true, false, cond, eqb, ltb, List, length, get_or, set, is_some, Some, None, Ok, Err, Option, Result, sym, refl, subst, ⊎_elim, arith}
 use Rattle.std.specs.List.{slice_get}
 use Rattle.std.specs.Option.{is_none, ok_or}
 use Rattle.std.proofs.lemmas.Bool.{cond_both, ltb-true, eqb-true, eqb-false, cases_eq}
@@ -10,7 +10,7 @@ use Rattle.store.specs.Stores.{Stored, stored, granted, alive, spent, within, af
 use Rattle.store.specs.declared.life.Fault.{Fault}
 use Rattle.store.specs.declared.life.Fault.TheVariants.{OutOfRange, NoLife}
 use Rattle.records.specs.Records.{Records, names, cell_of, journal_of, flushing, unsent_at}
-use Rattle.records.specs.Questions.{and_then, unless, present, holding, admitted, opening, beginning, committing, closing, first_from, all_sent}
+use Rattle.records.specs.Questions.{and_then, unless, holding, admitted, opening, beginning, committing, closing, first_from, all_sent}
 use Rattle.rules.specs.Site.{State, Outcome, outcome, next, ◌then◌, with_disk, with_marks, told, disk_read, disk_write, mark_read, mark_write}
 use Rattle.rules.specs.Book.{put}
 use Rattle.records.specs.declared.records.CellRecord.{CellRecord}
@@ -96,35 +96,20 @@ pub ok_same : {X : Type 0} (x y : X) → ◌≡◌ {A = Result X SiteFault} (Ok 
 ok_same x y e = cc
 
 pub holding_says : (t : Records) (k : ℕ) (x : Unit {0}) → holding t k ≡ Ok x → names t.holder k ≡ true
-holding_says t k x e = (was_yes _ _ _ _ (went_on (present t k) _ x e).2).0
+holding_says t k x e = grind arith
 
 pub admitted_says : (t : Records) (k i : ℕ) (r : CellRecord) → admitted t k i ≡ Ok r → (names t.holder k ≡ true) × (i < t.size) × (cell_of t k i ≡ Some r)
-admitted_says t k i r e =
-    let h = went_on (holding t k) _ r e in
-    let w = was_yes _ _ _ _ h.2 in
-    (holding_says t k h.0 h.1, ltb-true _ _ w.0, was_there _ _ r w.1)
+admitted_says t k i r e = grind (arith, ltb-true)
 
 pub opening_says : (t : Records) (k n : ℕ) → opening t k ≡ Ok n → (is_none t.holder ≡ true) × (n ≡ t.session + 1)
-opening_says t k n e =
-    let w = was_yes _ _ _ _ (went_on (present t k) _ n e).2 in
-    let w' = was_yes _ _ _ _ w.1 in
-    (w.0, sym (ok_same _ _ w'.1))
+opening_says t k n e = grind arith
 
 pub beginning_says : (t : Records) (k i : ℕ) (x : CellRecord × ℕ) → beginning t k i ≡ Ok x
     → (names t.holder k ≡ true) × (i < t.size) × (cell_of t k i ≡ Some x.0) × (is_none (journal_of t k) ≡ true) × (x.0.dirty ≡ true)
-beginning_says t k i x e =
-    let h = went_on (admitted t k i) _ x e in
-    let w = was_yes _ _ _ _ h.2 in
-    let w' = was_yes _ _ _ _ w.1 in
-    let w'' = was_yes _ _ _ _ w'.1 in
-    let q : h.0 ≡ x.0 = ap (λ (y : CellRecord × ℕ). y.0) (ok_same _ _ w''.1) in
-    let a = admitted_says t k i h.0 h.1 in
-    (a.0, a.1, a.2 ∙ ap Some q, w.0, sym (ap (λ (y : CellRecord). y.dirty) q) ∙ w'.0)
+beginning_says t k i x e = grind (arith, ltb-true)
 
 pub committing_says : (t : Records) (k i n : ℕ) (x : Unit {0}) → committing t k i n ≡ Ok x → (names t.holder k ≡ true) × (flushing t k i n ≡ true)
-committing_says t k i n x e =
-    let h = went_on (holding t k) _ x e in
-    (holding_says t k h.0 h.1, (was_yes _ _ _ _ h.2).0)
+committing_says t k i n x e = grind arith
 
 was_none : (o : Option ℕ) (x : Unit {0}) → all_sent o ≡ Ok x → o ≡ None
 was_none o x e = grind arith
