@@ -6,7 +6,7 @@ use Rattle.store.specs.Stores.{after_renew}
 use Rattle.records.specs.Clients.{changed}
 use Rattle.records.specs.Faults.{says}
 use Rattle.records.specs.Cells.{new_cell, settled, fresh, sweeps, swept_cell, unchecked_cell, dirtied}
-use Rattle.records.specs.Records.{Records, cell_of, note_of, is_in_journal, with_cells, with_cell, with_journal, with_note, unchecked_client, begun_client, soiled, given_up_client, restarted_client}
+use Rattle.records.specs.Records.{Records, cell_of, is_in_journal, with_cells, with_cell, with_journal, with_note, unchecked_client, begun_client, soiled, given_up_client, restarted_client}
 use Rattle.records.specs.Questions.{and_then, unless, there, present, holding, admitted, opening, beginning, committing, giving_up, closing, all_sent, first_from, taken_place, taking_to_commit, taking_to_give_up}
 use Rattle.records.specs.Questions as questions
 use Rattle.rules.specs.Site.{State, Outcome, outcome, next, with_table, with_disk, with_locals, disk_read, disk_write, mark_read, mark_write, local_read, local_write}
@@ -18,7 +18,7 @@ use Rattle.rules.specs.Claim.{Asking, nobody, of_client, of_cell, asking, IsTher
 use Rattle.records.specs.declared.records.CellRecord.{CellRecord}
 use Rattle.records.specs.declared.records.Flush.{Flush}
 use Rattle.records.specs.declared.fault.SiteFault.{SiteFault}
-use Rattle.rules.proofs.Ways.{went_on, was_there, beginning_says}
+use Rattle.rules.proofs.Ways.{beginning_says}
 use Rattle.rules.proofs.Shapes.{Sound, Own, note_own, num, Clear, zero_clear, Safe, safe_then, EightIs, Exact, there_says, clear_exact, question, held, celled, whole, with_disk_sound, with_marks_sound, with_locals_sound, with_client_sound, disk_read_safe, disk_write_safe, mark_read_safe, mark_write_safe, local_read_safe, local_write_safe}
 
 -- a clear answer of a call that takes no cell
@@ -244,7 +244,7 @@ module _ {V : Type 0} {wide many : ℕ} where
       (whole s k None (taking_to_commit s.table k) _ h
       (held s.table k None _ h.fit (λ th _. none_exact s.table k _ (grind arith) th))
       λ n e th.
-      let own : n.client ≡ k = note_own s k n h (was_there (note_of s.table k) _ n (went_on (holding s.table k) _ n e).2) in
+      let own : n.client ≡ k = note_own s k n h (grind arith) in
       let s₁ : State V = with_note_of s k None in
       let th₁ : there s.table n.client ≡ true = rw own th in
       by n own (commit_call blank s₁ n.client n.cell n.turn).answer (exact_safe s₁ n.client (commit_call blank s₁ n.client n.cell n.turn) th₁ (commit_exact blank s₁ n.client n.cell n.turn (with_note_sound s k None tt h))))

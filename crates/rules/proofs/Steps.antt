@@ -26,7 +26,7 @@ use Rattle.records.specs.declared.records.ClientRecord.{ClientRecord}
 use Rattle.records.specs.declared.records.Flush.{Flush}
 use Rattle.records.specs.declared.fault.SiteFault.{SiteFault}
 use Rattle.records.specs.declared.fault.SiteFault.TheVariants as fault
-use Rattle.rules.proofs.Ways.{followed, by_disk_read, by_mark_read, by_disk_write, by_mark_write, entry, equal_or_not, somebody, nobody_else, unnamed, was_yes, admitted_says, opening_says, beginning_says, committing_says, closing_says, holding_says}
+use Rattle.rules.proofs.Ways.{followed, by_disk_read, by_mark_read, by_disk_write, by_mark_write, entry, equal_or_not, somebody, nobody_else, unnamed, admitted_says, opening_says, beginning_says, committing_says, closing_says, holding_says}
 use Rattle.rules.proofs.Sight.{Client, View, with_client, with_cells, held_by, store_of, client_of, cells_in, journal_in, seen, view, Relocal, same_locals, view_both, view_locals, by_local_read, by_local_write, journal_is, record_is, cell_known, flush_known}
 use Rattle.rules.proofs.Sight as sight
 use Rattle.rules.proofs.Invariant.{Inv, Of, Knows, Filed, mark_at, disk_at, changed, moved, lives, remarked, rewritten, write_own, book_other, check_own, fetch_own, begin_own, journal_else, sent_own, sent_serves, give_own, restart_own, drop_own, open_own, open_other, open_serves, close_own, close_other, close_serves, read_sure, read_fresh, read_disk, unsent_serves}
@@ -192,7 +192,7 @@ module _ {V : Type 0} (blank : V) where
       let m : ℕ = s.table.size in
       let P : Outcome V (Unit {0}) → Type 0 = λ o. Fine m b other (replied (plain_reply k) o) in
       followed P s (questions.giving_up s.table c k t) _ (λ e. bad e k 0 refl i) λ x a.
-      let f : names (js s c) k ≡ true = flush_known s.table c k t (was_yes _ _ _ _ a).0 in
+      let f : names (js s c) k ≡ true = flush_known s.table c k t (grind arith) in
       let r : CellRecord = dirtied true (get_or (cs s c) k new_cell) in
       let cl : Client V = record { local = store_of s.locals c; cells = set (cs s c) k r; journal = None } in
       record {

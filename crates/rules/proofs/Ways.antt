@@ -1,7 +1,7 @@
 -- How a proof follows a call: at each question, at each store operation, and at each table entry.
 use Rattle.std.proofs.Common.{◌≡◌, ℕ, zero, suc, ◌+◌, ◌<◌, ◌≤◌, Bool, true, false, cond, eqb, ltb, List, length, get_or, set, is_some, Some, None, Ok, Err, Option, Result, sym, refl, subst, ⊎_elim, arith}
 use Rattle.std.specs.List.{slice_get}
-use Rattle.std.specs.Option.{is_none, ok_or}
+use Rattle.std.specs.Option.{is_none}
 use Rattle.std.proofs.lemmas.Bool.{cond_both, ltb-true, eqb-true, eqb-false, cases_eq}
 use Rattle.std.proofs.lemmas.List.{get_or-set_same, get_or-set_other}
 use Rattle.std.proofs.lemmas.Option.{get_or_from_slice_get, slice_get_within, cond_some}
@@ -10,7 +10,7 @@ use Rattle.store.specs.Stores.{Stored, stored, granted, alive, spent, within, af
 use Rattle.store.specs.declared.life.Fault.{Fault}
 use Rattle.store.specs.declared.life.Fault.TheVariants.{OutOfRange, NoLife}
 use Rattle.records.specs.Records.{Records, names, cell_of, journal_of, flushing, unsent_at}
-use Rattle.records.specs.Questions.{and_then, unless, holding, admitted, opening, beginning, committing, closing, first_from, all_sent}
+use Rattle.records.specs.Questions.{holding, admitted, opening, beginning, committing, closing, first_from}
 use Rattle.rules.specs.Site.{State, Outcome, outcome, next, ◌then◌, with_disk, with_marks, told, disk_read, disk_write, mark_read, mark_write}
 use Rattle.rules.specs.Book.{put}
 use Rattle.records.specs.declared.records.CellRecord.{CellRecord}
@@ -82,19 +82,6 @@ pub nobody_else : (h : Option ℕ) (c c' : ℕ) → names h c ≡ true → (c' �
 nobody_else h c c' e n = grind arith
 
 -- what an accepted question says
-pub went_on : {X Y : Type 0} (r : Result X SiteFault) (f : X → Result Y SiteFault) (y : Y) → and_then r f ≡ Ok y → (x : X) × (r ≡ Ok x) × (f x ≡ Ok y)
-went_on (Ok x) f y e = (x, refl, e)
-went_on (Err q) f y e = cc
-
-pub was_yes : {X : Type 0} (b : Bool) (q : SiteFault) (r : Result X SiteFault) (x : X) → unless b q r ≡ Ok x → (b ≡ true) × (r ≡ Ok x)
-was_yes b q r x e = grind arith
-
-pub was_there : {X : Type 0} (o : Option X) (q : SiteFault) (x : X) → ok_or o q ≡ Ok x → o ≡ Some x
-was_there o q x e = grind arith
-
-pub ok_same : {X : Type 0} (x y : X) → ◌≡◌ {A = Result X SiteFault} (Ok x) (Ok y) → x ≡ y
-ok_same x y e = cc
-
 pub holding_says : (t : Records) (k : ℕ) (x : Unit {0}) → holding t k ≡ Ok x → names t.holder k ≡ true
 holding_says t k x e = grind arith
 
@@ -111,9 +98,6 @@ beginning_says t k i x e = grind (arith, ltb-true)
 pub committing_says : (t : Records) (k i n : ℕ) (x : Unit {0}) → committing t k i n ≡ Ok x → (names t.holder k ≡ true) × (flushing t k i n ≡ true)
 committing_says t k i n x e = grind arith
 
-was_none : (o : Option ℕ) (x : Unit {0}) → all_sent o ≡ Ok x → o ≡ None
-was_none o x e = grind arith
-
 -- nothing was found among the numbers looked at
 none_found : (p : ℕ → Bool) (n i : ℕ) → first_from p n i ≡ None → (k : ℕ) → i ≤ k → k < i + n → p k ≡ false
 unfolding first_from
@@ -127,5 +111,5 @@ none_found p (suc n) i e k a z = go (p i) refl e (λ r a' z'. none_found p n (su
 
 pub closing_says : (t : Records) (k : ℕ) (x : Unit {0}) → closing t k ≡ Ok x → (names t.holder k ≡ true) × ((i : ℕ) → i < t.size → unsent_at t k i ≡ false)
 closing_says t k x e =
-    let h = went_on (holding t k) _ x e in
-    (holding_says t k h.0 h.1, λ i z. none_found (unsent_at t k) t.size 0 (was_none _ x h.2) i (omega arith) (omega arith))
+    let n : first_from (unsent_at t k) t.size 0 ≡ None = grind arith in
+    (grind arith, λ i z. none_found (unsent_at t k) t.size 0 n i (omega arith) (omega arith))
