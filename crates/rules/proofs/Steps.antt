@@ -241,9 +241,7 @@ module _ {V : Type 0} (blank : V) where
 
   -- a cell that is neither dirty nor in the journal, by a test that failed
   pub clean_at : (s : State V) (c k : ℕ) → unsent_at s.table c k ≡ false → ((get_or (cs s c) k new_cell).dirty ≡ false) × (names (js s c) k ≡ false)
-  clean_at s c k e =
-      let z = or_parts _ _ e in
-      (sym (ap (λ (r : CellRecord). r.dirty) (record_is s.table c k)) ∙ z.0, sym (ap (λ j. names j k) (journal_is s.table c)) ∙ z.1)
+  clean_at s c k e = let r = record_is s.table c k in let j = journal_is s.table c in grind arith
 
   pub close_fine : (s : State V) (b : Book V) (c : ℕ) → Kept s b → Fine s.table.size b other (replied (plain_reply 0) (close_call s c))
   close_fine s b c i =

@@ -1,9 +1,8 @@
 -- From a new fit site, after any list of acts, reads gave the last writes, and the disk lags only at unsent cells.
-use Rattle.std.proofs.Common.{◌≡◌, ℕ, ◌<◌, true, false, ◌||◌, List, [], ◌∷◌, ◌++◌, map, length, get_or, Some, None, Option, unwrap_or, sym, refl, ap, ◌∙◌, subst, arith}
+use Rattle.std.proofs.Common.{◌≡◌, ℕ, ◌<◌, true, false, List, [], ◌∷◌, ◌++◌, map, length, get_or, Some, None, Option, unwrap_or, sym, refl, ap, ◌∙◌, subst, arith}
 use Rattle.std.proofs.lemmas.Bool.{eq-eqb}
 use Rattle.store.specs.Stores.{Stored, stored}
-use Rattle.records.specs.Cells.{new_cell, fresh}
-use Rattle.records.specs.Records.{names, journal_of}
+use Rattle.records.specs.Cells.{fresh}
 use Rattle.rules.specs.Site.{State}
 use Rattle.rules.specs.Making.{within, Start, made}
 use Rattle.rules.specs.Replies.{Call, Open, Read, Write, Begin, Commit, GiveUp, Close, Invalidate, RestartClient, RestartServer, BeginStep, CommitStep, GiveUpStep, NoStep, Reply, Out, out, called}
@@ -16,7 +15,7 @@ use Rattle.rules.specs.declared.answer.Answer.{Answer}
 use Rattle.records.specs.declared.records.CellRecord.{CellRecord}
 use Rattle.records.specs.declared.fault.Unfit.{Unfit}
 use Rattle.records.proofs.Tables.{asked_as}
-use Rattle.rules.proofs.Sight.{view, store_of, client_of, cells_in, record_is, journal_is}
+use Rattle.rules.proofs.Sight.{view, store_of, record_is, journal_is}
 use Rattle.rules.proofs.Invariant.{Inv, Of, At}
 use Rattle.rules.proofs.Steps.{Fine, clean_at, open_fine, read_fine, write_fine, begin_fine, commit_fine, give_up_fine, close_fine, invalidate_fine, restart_client_fine, restart_server_fine, begin_step_fine, commit_step_fine, give_up_step_fine, no_step_fine}
 use Rattle.rules.proofs.Plays.{calls, calls_after, calls_log, after_joined, log_joined, run_does, acts_do}
@@ -75,9 +74,10 @@ module _ {V : Type 0} (blank : V) where
       → unsent (b k).stage ≡ held_back s.table h k
   held_exactly m s b k None e a f = sent_not_unsent (b k).stage (a.idle (rw e refl))
   held_exactly m s b k (Some c) e a f =
-      (f c).exactly (rw e (eq-eqb c c refl))
-      ∙ sym (ap (λ (r : CellRecord). r.dirty || names (journal_of s.table c) k) (record_is s.table c k)
-      ∙ ap (λ (j : Option ℕ). (get_or (cells_in (client_of s.table c)) k new_cell).dirty || names j k) (journal_is s.table c))
+      let x = (f c).exactly (rw e (eq-eqb c c refl)) in
+      let r = record_is s.table c k in
+      let j = journal_is s.table c in
+      grind arith
 
   lags_at : (m : ℕ) (s : State V) (b : Book V) → Inv blank m (view s) b → (k : ℕ) → k < m → Lags blank s b k
   lags_at m s b i k h = record { disk_is = (i.serves k h).same; exactly = held_exactly m s b k s.table.holder refl (i.serves k h) (λ c. i.keeps k c h) }

@@ -1,5 +1,5 @@
 -- How a proof follows a call: at each question, at each store operation, and at each table entry.
-use Rattle.std.proofs.Common.{◌≡◌, ℕ, zero, suc, ◌+◌, ◌<◌, ◌≤◌, Bool, true, false, cond, eqb, ltb, List, length, get_or, set, is_some, Some, None, Ok, Err, Option, Result, sym, refl, subst, ⊎_elim, arith}
+use Rattle.std.proofs.Common.{◌≡◌, ℕ, zero, suc, ◌+◌, ◌<◌, ◌≤◌, Bool, true, false, eqb, ltb, List, length, get_or, set, is_some, Some, None, Ok, Err, Option, Result, sym, refl, subst, ⊎_elim, arith}
 use Rattle.std.specs.List.{slice_get}
 use Rattle.std.specs.Option.{is_none}
 use Rattle.std.proofs.lemmas.Bool.{cond_both, ltb-true, eqb-true, eqb-false, cases_eq}
@@ -102,12 +102,7 @@ committing_says t k i n x e = grind arith
 none_found : (p : ℕ → Bool) (n i : ℕ) → first_from p n i ≡ None → (k : ℕ) → i ≤ k → k < i + n → p k ≡ false
 unfolding first_from
 none_found p zero i e k a z = absurd (omega arith)
-none_found p (suc n) i e k a z = go (p i) refl e (λ r a' z'. none_found p n (suc i) r k a' z')
-  where
-    go : (t : Bool) → p i ≡ t → cond t (Some i) (first_from p n (suc i)) ≡ None
-        → (first_from p n (suc i) ≡ None → suc i ≤ k → k < suc i + n → p k ≡ false) → p k ≡ false
-    go true q e more = cc
-    go false q e more = equal_or_not (p k ≡ false) k i (λ r. cc) (λ r. more e (omega arith) (omega arith))
+none_found p (suc n) i e k a z = equal_or_not (p k ≡ false) k i (λ r. grind arith) (λ r. none_found p n (suc i) (grind arith) k (omega arith) (omega arith))
 
 pub closing_says : (t : Records) (k : ℕ) (x : Unit {0}) → closing t k ≡ Ok x → (names t.holder k ≡ true) × ((i : ℕ) → i < t.size → unsent_at t k i ≡ false)
 closing_says t k x e =
