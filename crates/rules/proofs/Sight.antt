@@ -47,9 +47,6 @@ module _ {V : Type 0} where
   abbrev pub held_by : View V → ℕ → Option ℕ → View V
   held_by s n h = record { disk = s.disk; marks = s.marks; session = n; holder = h; clients = s.clients }
 
-  abbrev pub with_local : Client V → Stored V → Client V
-  with_local cl l = record { local = l; cells = cl.cells; journal = cl.journal }
-
   abbrev pub with_cells : Client V → List CellRecord → Client V
   with_cells cl xs = record { local = cl.local; cells = xs; journal = cl.journal }
 
@@ -129,15 +126,6 @@ view_both {V} s ls f c b r = λ i. record { disk = s.disk; marks = s.marks; sess
         (λ e. subst (λ (j : ℕ). seen (store_of ls j) (asked (λ x. x) (changed f s.table.clients c) j) ≡ seen b (option_map f (client_of s.table c))) (sym e)
         (ap (λ (x : Stored V). seen x (asked (λ x. x) (changed f s.table.clients c) c)) r.own ∙ ap (seen b) (changed_at f s.table.clients c)))
         (λ n. ap (λ (x : Stored V). seen x (asked (λ x. x) (changed f s.table.clients c) c')) (r.else c' n) ∙ ap (seen (store_of s.locals c')) (changed_else f s.table.clients c c' n))
-
-pub view_locals : {V : Type 0} (s : State V) (ls : List (Stored V)) (c : ℕ) (b : Stored V) → Relocal s.locals c b ls → view (with_locals s ls) ≡ with_client (view s) c (with_local ((view s).clients c) b)
-view_locals {V} s ls c b r = λ i. record { disk = s.disk; marks = s.marks; session = s.table.session; holder = s.table.holder; clients = λ c'. at c' i }
-  where
-    at : (c' : ℕ) → seen (store_of ls c') (client_of s.table c') ≡ put (view s).clients c (with_local ((view s).clients c) b) c'
-    at c' =
-        entry (λ z. seen (store_of ls c') (client_of s.table c') ≡ z) (view s).clients c _ c'
-        (λ q. subst (λ (j : ℕ). seen (store_of ls j) (client_of s.table j) ≡ with_local ((view s).clients c) b) (sym q) (ap (λ (x : Stored V). seen x (client_of s.table c)) r.own))
-        (λ n. ap (λ (x : Stored V). seen x (client_of s.table c')) (r.else c' n))
 
 module _ {V Y : Type 0} (P : Outcome V Y → Type 0) (s : State V) (c : ℕ) where
   relocal : (f : Stored V → Stored V) (b b' : Stored V) → asked (λ x. x) s.locals c ≡ Some b → f b ≡ b' → Relocal s.locals c b' (changed f s.locals c)

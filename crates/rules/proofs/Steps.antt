@@ -27,7 +27,7 @@ use Rattle.records.specs.declared.records.Flush.{Flush}
 use Rattle.records.specs.declared.fault.SiteFault.{SiteFault}
 use Rattle.records.specs.declared.fault.SiteFault.TheVariants as fault
 use Rattle.rules.proofs.Ways.{followed, by_disk_read, by_mark_read, by_disk_write, by_mark_write, entry, equal_or_not, somebody, nobody_else, unnamed, admitted_says, opening_says, beginning_says, committing_says, closing_says, holding_says}
-use Rattle.rules.proofs.Sight.{Client, View, with_client, with_cells, held_by, store_of, client_of, cells_in, journal_in, seen, view, Relocal, same_locals, view_both, view_locals, by_local_read, by_local_write, journal_is, record_is, cell_known, flush_known}
+use Rattle.rules.proofs.Sight.{Client, View, with_client, with_cells, held_by, store_of, client_of, cells_in, journal_in, seen, view, Relocal, same_locals, view_both, by_local_read, by_local_write, journal_is, record_is, cell_known, flush_known}
 use Rattle.rules.proofs.Sight as sight
 use Rattle.rules.proofs.Invariant.{Inv, Of, Knows, Filed, mark_at, disk_at, changed, moved, lives, remarked, rewritten, write_own, book_other, check_own, fetch_own, begin_own, journal_else, sent_own, sent_serves, give_own, restart_own, drop_own, open_own, open_other, open_serves, close_own, close_other, close_serves, read_sure, read_fresh, read_disk, unsent_serves}
 
@@ -61,17 +61,18 @@ module _ {V : Type 0} (blank : V) where
       → Inv blank m (view (with_table (with_locals s ls) (records.with_clients s.table (clients.changed f s.table.clients c)))) b
   seen_as {m} {b} {ls} {l} s c f cl r e i = subst (λ (u : View V). Inv blank m u b) (sym (view_both s ls f c l r ∙ ap (with_client (view s) c) e)) i
 
-  -- the local store has another life
-  aged_local : (s : State V) (b : Book V) (c : ℕ) (l : Life) (ls : List (Stored V)) → Relocal s.locals c (stored (store_of s.locals c).cells l) ls → Kept s b → Kept (with_locals s ls) b
-  aged_local s b c l ls r i =
-      subst (λ (v : View V). Inv blank s.table.size v b) (sym (view_locals s ls c _ r))
-      (changed blank s.table.size (view s) b c _ i (λ k h. i.keeps k c h) (i.filed c))
-
   abbrev cs : State V → ℕ → List CellRecord
   cs s c = cells_in (client_of s.table c)
 
   abbrev js : State V → ℕ → Option ℕ
   js s c = journal_in (client_of s.table c)
+
+  -- the local store has another life
+  aged_local : (s : State V) (b : Book V) (c : ℕ) (l : Life) (ls : List (Stored V)) → Relocal s.locals c (stored (store_of s.locals c).cells l) ls → Kept s b → Kept (with_locals s ls) b
+  aged_local s b c l ls r i =
+      let cl : Client V = record { local = stored (store_of s.locals c).cells l; cells = cs s c; journal = js s c } in
+      subst (λ (xs : List ClientRecord). Kept (with_table (with_locals s ls) (records.with_clients s.table xs)) b) (sight.changed_same (λ x. x) s.table.clients c (grind arith))
+      (seen_as s c _ cl r (grind arith) (changed blank s.table.size (view s) b c cl i (λ k h. i.keeps k c h) (i.filed c)))
 
   filed_set : (s : State V) (b : Book V) (c k : ℕ) (r : CellRecord) (l : Stored V) → Kept s b → Filed blank s.table.size (record { local = l; cells = set (cs s c) k r; journal = js s c })
   filed_set s b c k r l i j e = rw (length-set (cs s c) k r) (i.filed c j e)
