@@ -1,16 +1,12 @@
 -- A list of acts is a list of calls: a run does its steps' calls in order, and its rows show their replies.
-use Rattle.std.proofs.Common.{◌≡◌, ℕ, suc, eqb, List, [], ◌∷◌, ◌++◌, length, set, Option, Result, unwrap_or, sym, refl, ap, ◌∙◌, add-one, arith}
+use Rattle.std.proofs.Common.{◌≡◌, ℕ, suc, eqb, List, [], ◌∷◌, ◌++◌, length, set, Option, unwrap_or, sym, refl, ap, ◌∙◌, add-one, arith}
 use Rattle.std.proofs.lemmas.Bool.{cond_both, eqb-true, and_parts}
 use Rattle.rules.specs.Site.{State}
-use Rattle.rules.specs.declared.answer.Source.{Source}
-use Rattle.rules.specs.declared.answer.Stopped.{Stopped}
-use Rattle.rules.specs.Replies.{Call, Reply, Out, open_reply, read_reply, noted_reply, plain_reply, swept_reply, called}
+use Rattle.rules.specs.Replies.{Call, Reply, Out, called}
 use Rattle.rules.specs.Runs.{Rows, call_of, calls_of, equally_long, Running, running, put_got, filled, run_from, run_calls, ran}
 use Rattle.rules.specs.History.{Entry, Act, single, run, logged, shown, row_log, acted, act_log, after, log}
 use Rattle.rules.specs.declared.step.Step.{Step}
 use Rattle.rules.specs.declared.answer.Answer.{Answer}
-use Rattle.records.specs.declared.records.Flush.{Flush}
-use Rattle.records.specs.declared.fault.SiteFault.{SiteFault}
 
 -- the calls of a list of acts
 abbrev pub calls_in : {V : Type 0} → Act V → List (Call V)
@@ -92,36 +88,20 @@ module _ {V : Type 0} (blank : V) where
   abbrev Shows : Reply V → Type 0
   Shows r = (g : V) → shown r.answer (unwrap_or r.got g) ≡ r
 
-  plain_shows : (i : ℕ) (r : Result (Unit {0}) SiteFault) → Shows (plain_reply i r)
-  plain_shows i r g = grind arith
-
-  open_shows : (r : Result ℕ SiteFault) → Shows (open_reply r)
-  open_shows r g = grind arith
-
-  noted_shows : (i : ℕ) (r : Result Flush SiteFault) → Shows (noted_reply i r)
-  noted_shows i r g = grind arith
-
-  swept_shows : (r : Result ℕ Stopped) → Shows (swept_reply r)
-  swept_shows r g = grind arith
-
-  -- an accepted read has a source
-  read_shows : (i : ℕ) (r : Result (V × Source) SiteFault) → Shows (read_reply i r)
-  read_shows i r g = grind arith
-
   step_shows : (s : State V) (p : Step) (v : V) → Shows (called blank s (call_of p v)).reply
   unfolding called
   step_shows s p v =
       let P : Call V → Type 0 = λ q. Shows (called blank s q).reply in
-      cond_both (eqb p.call 1) _ _ P (λ _. open_shows _) λ _.
-      cond_both (eqb p.call 2) _ _ P (λ _. read_shows _ _) λ _.
-      cond_both (eqb p.call 3) _ _ P (λ _. plain_shows _ _) λ _.
-      cond_both (eqb p.call 4) _ _ P (λ _. noted_shows _ _) λ _.
-      cond_both (eqb p.call 5) _ _ P (λ _. plain_shows _ _) λ _.
-      cond_both (eqb p.call 6) _ _ P (λ _. plain_shows _ _) λ _.
-      cond_both (eqb p.call 7) _ _ P (λ _. plain_shows _ _) λ _.
-      cond_both (eqb p.call 8) _ _ P (λ _. swept_shows _) λ _.
-      cond_both (eqb p.call 9) _ _ P (λ _. plain_shows _ _) λ _.
-      cond_both (eqb p.call 10) _ _ P (λ _. plain_shows _ _) λ _ g. refl
+      cond_both (eqb p.call 1) _ _ P (λ _ g. grind arith) λ _.
+      cond_both (eqb p.call 2) _ _ P (λ _ g. grind arith) λ _.
+      cond_both (eqb p.call 3) _ _ P (λ _ g. grind arith) λ _.
+      cond_both (eqb p.call 4) _ _ P (λ _ g. grind arith) λ _.
+      cond_both (eqb p.call 5) _ _ P (λ _ g. grind arith) λ _.
+      cond_both (eqb p.call 6) _ _ P (λ _ g. grind arith) λ _.
+      cond_both (eqb p.call 7) _ _ P (λ _ g. grind arith) λ _.
+      cond_both (eqb p.call 8) _ _ P (λ _ g. grind arith) λ _.
+      cond_both (eqb p.call 9) _ _ P (λ _ g. grind arith) λ _.
+      cond_both (eqb p.call 10) _ _ P (λ _ g. grind arith) λ _ g. refl
 
   -- the rows that a run leaves are the log of its calls
   rows_show : (s : State V) (ps : List Step) (vs gs : List V) → length gs ≡ length (calls_of ps vs)
