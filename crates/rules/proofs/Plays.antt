@@ -1,8 +1,8 @@
 -- A list of acts is a list of calls: a run does its steps' calls in order, and its rows show their replies.
-use Rattle.std.proofs.Common.{◌≡◌, ℕ, suc, eqb, List, [], ◌∷◌, ◌++◌, length, set, Option, unwrap_or, sym, refl, ap, ◌∙◌, add-one, arith}
+use Rattle.std.proofs.Common.{◌≡◌, ℕ, suc, List, [], ◌∷◌, ◌++◌, length, set, Option, unwrap_or, sym, refl, ap, ◌∙◌, add-one, arith}
 use Rattle.std.proofs.lemmas.Bool.{cond_both, eqb-true, and_parts}
 use Rattle.rules.specs.Site.{State}
-use Rattle.rules.specs.Replies.{Call, Reply, Out, called}
+use Rattle.rules.specs.Replies.{Call, Out, called}
 use Rattle.rules.specs.Runs.{Rows, call_of, calls_of, equally_long, Running, running, put_got, filled, run_from, run_calls, ran}
 use Rattle.rules.specs.History.{Entry, Act, single, run, logged, shown, row_log, acted, act_log, after, log}
 use Rattle.rules.specs.declared.step.Step.{Step}
@@ -84,24 +84,10 @@ calls_long (p ∷ ps) [] e = absurd (omega arith)
 calls_long (p ∷ ps) (v ∷ vs) e = ap suc (calls_long ps vs (omega arith))
 
 module _ {V : Type 0} (blank : V) where
-  -- a reply that a row can show whole
-  abbrev Shows : Reply V → Type 0
-  Shows r = (g : V) → shown r.answer (unwrap_or r.got g) ≡ r
-
-  step_shows : (s : State V) (p : Step) (v : V) → Shows (called blank s (call_of p v)).reply
+  -- a row shows a step's reply whole
+  step_shows : (s : State V) (p : Step) (v g : V) → shown (called blank s (call_of p v)).reply.answer (unwrap_or (called blank s (call_of p v)).reply.got g) ≡ (called blank s (call_of p v)).reply
   unfolding called
-  step_shows s p v =
-      let P : Call V → Type 0 = λ q. Shows (called blank s q).reply in
-      cond_both (eqb p.call 1) _ _ P (λ _ g. grind arith) λ _.
-      cond_both (eqb p.call 2) _ _ P (λ _ g. grind arith) λ _.
-      cond_both (eqb p.call 3) _ _ P (λ _ g. grind arith) λ _.
-      cond_both (eqb p.call 4) _ _ P (λ _ g. grind arith) λ _.
-      cond_both (eqb p.call 5) _ _ P (λ _ g. grind arith) λ _.
-      cond_both (eqb p.call 6) _ _ P (λ _ g. grind arith) λ _.
-      cond_both (eqb p.call 7) _ _ P (λ _ g. grind arith) λ _.
-      cond_both (eqb p.call 8) _ _ P (λ _ g. grind arith) λ _.
-      cond_both (eqb p.call 9) _ _ P (λ _ g. grind arith) λ _.
-      cond_both (eqb p.call 10) _ _ P (λ _ g. grind arith) λ _ g. refl
+  step_shows s p v g = grind arith
 
   -- the rows that a run leaves are the log of its calls
   rows_show : (s : State V) (ps : List Step) (vs gs : List V) → length gs ≡ length (calls_of ps vs)

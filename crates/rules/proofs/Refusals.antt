@@ -11,7 +11,6 @@ use Rattle.records.specs.Questions.{and_then, unless, there, present, holding, a
 use Rattle.records.specs.Questions as questions
 use Rattle.rules.specs.Site.{State, Outcome, outcome, next, with_table, with_disk, with_locals, disk_read, disk_write, mark_read, mark_write, local_read, local_write}
 use Rattle.rules.specs.Calls.{open_call, read_local, read_confirmed, read_fetched, read_call, write_call, begin_call, commit_call, give_up_call, close_call, sweep_record, sweep_cell, Sweeping, sweep_more, sweep_from, sweep_admitted, invalidate_call, restart_client_call, restart_server_call, with_note_of, begin_step, returned, commit_taken, commit_step, give_up_step}
-use Rattle.rules.specs.declared.answer.Source.{Source}
 use Rattle.rules.specs.declared.answer.Stopped.{Stopped}
 use Rattle.rules.specs.Replies.{Call, Open, Read, Write, Begin, Commit, GiveUp, Close, Invalidate, RestartClient, RestartServer, BeginStep, CommitStep, GiveUpStep, NoStep, Reply, Out, replied, open_reply, read_reply, begin_reply, noted_reply, plain_reply, swept_reply, swept_out, called}
 use Rattle.rules.specs.Claim.{Asking, nobody, of_client, of_cell, asking, IsThere, Rightly}
@@ -36,26 +35,6 @@ soiled_long xs j = grind (arith, length-map, length-set)
 abbrev stop_num : Result ℕ Stopped → ℕ
 stop_num (Ok n) = 0
 stop_num (Err x) = (says x.fault).number
-
-module _ (V : Type 0) where
-  -- the number of a reply is that of its outcome
-  open_num : (r : Result ℕ SiteFault) → (open_reply {V = V} r).answer.number ≡ num r
-  open_num r = grind arith
-
-  read_num : (i : ℕ) (r : Result (V × Source) SiteFault) → (read_reply i r).answer.number ≡ num r
-  read_num i r = grind arith
-
-  begin_num : (i : ℕ) (r : Result Flush SiteFault) → (begin_reply {V = V} i r).answer.number ≡ num r
-  begin_num i r = grind arith
-
-  noted_num : (i : ℕ) (r : Result Flush SiteFault) → (noted_reply {V = V} i r).answer.number ≡ num r
-  noted_num i r = grind arith
-
-  plain_num : (i : ℕ) (r : Result (Unit {0}) SiteFault) → (plain_reply {V = V} i r).answer.number ≡ num r
-  plain_num i r = grind arith
-
-  swept_num : (r : Result ℕ Stopped) → (swept_reply {V = V} r).answer.number ≡ stop_num r
-  swept_num r = grind arith
 
 -- a call of a client, or of one of its cells
 abbrev about : ℕ → Option ℕ → Asking
@@ -104,7 +83,7 @@ module _ {V : Type 0} {wide many : ℕ} where
 
   open_ends : (s : State V) (k : ℕ) → Sound wide many s → Ends wide many s (of_client k) (replied open_reply (open_call s k))
   open_ends s k h =
-      exact_ends open_reply (open_num V) s k None (open_call s k)
+      exact_ends open_reply (λ r. grind arith) s k None (open_call s k)
       (whole s k None (opening s.table k) _ h
       (question s.table k None _ h.fit
       (λ th. none_exact s.table k _ (grind arith) th))
@@ -117,7 +96,7 @@ module _ {V : Type 0} {wide many : ℕ} where
   read_ends : (s : State V) (k i : ℕ) → Sound wide many s → Ends wide many s (of_cell k i) (replied (read_reply i) (read_call s k i))
   unfolding read_local read_confirmed read_fetched
   read_ends s k i h =
-      exact_ends (read_reply i) (read_num V i) s k (Some i) (read_call s k i)
+      exact_ends (read_reply i) (λ r. grind arith) s k (Some i) (read_call s k i)
       (whole s k (Some i) (admitted s.table k i) _ h (admitted_exact s k i h) λ r _ th.
       cond_both (settled r (is_in_journal s.table k i)) _ _ (Safe wide many)
       (λ _. safe_then (local_read s k i) _ (local_read_safe s k i h th) (λ v h₁. (h₁, zero_clear)))
@@ -133,7 +112,7 @@ module _ {V : Type 0} {wide many : ℕ} where
 
   write_ends : (s : State V) (k i : ℕ) (v : V) → Sound wide many s → Ends wide many s (of_cell k i) (replied (plain_reply i) (write_call s k i v))
   write_ends s k i v h =
-      exact_ends (plain_reply i) (plain_num V i) s k (Some i) (write_call s k i v)
+      exact_ends (plain_reply i) (λ r. grind arith) s k (Some i) (write_call s k i v)
       (whole s k (Some i) (admitted s.table k i) _ h (admitted_exact s k i h) λ r _ th.
       safe_then (local_write s k i v) _ (local_write_safe s k i v h th) (λ _ h₁. (with_cell_sound _ k i _ h₁, zero_clear)))
 
@@ -149,11 +128,11 @@ module _ {V : Type 0} {wide many : ℕ} where
       (with_client_sound (local_write s₁ k s.table.size v).state s.table.session s.table.holder (λ c. begun_client c i x.0 x.1) k h₂ (λ c. length-set c.cells i (dirtied false x.0)) (λ c w. (w.0, (beginning_says s.table k i x e).1)), zero_clear)
 
   begin_ends : (s : State V) (k i : ℕ) → Sound wide many s → Ends wide many s (of_cell k i) (replied (begin_reply i) (begin_call s k i))
-  begin_ends s k i h = exact_ends (begin_reply i) (begin_num V i) s k (Some i) (begin_call s k i) (begin_exact s k i h)
+  begin_ends s k i h = exact_ends (begin_reply i) (λ r. grind arith) s k (Some i) (begin_call s k i) (begin_exact s k i h)
 
   begin_step_ends : (s : State V) (k i : ℕ) → Sound wide many s → Ends wide many s (of_cell k i) (replied (noted_reply i) (begin_step s k i))
   begin_step_ends s k i h =
-      exact_ends (noted_reply i) (noted_num V i) s k (Some i) (begin_step s k i) (by (begin_call s k i).answer (begin_names s k i) (begin_exact s k i h))
+      exact_ends (noted_reply i) (λ r. grind arith) s k (Some i) (begin_step s k i) (by (begin_call s k i).answer (begin_names s k i) (begin_exact s k i h))
     where
       by : (r : Result Flush SiteFault) → ((n : Flush) → r ≡ Ok n → n.client ≡ k) → Sound wide many (begin_call s k i).state × Exact s.table k (Some i) (num r)
           → Sound wide many (next (begin_call s k i).state r (λ s₁ n. outcome {X = Flush} (with_note_of s₁ k (Some n)) (Ok n))).state
@@ -183,7 +162,7 @@ module _ {V : Type 0} {wide many : ℕ} where
 
   close_ends : (s : State V) (k : ℕ) → Sound wide many s → Ends wide many s (of_client k) (replied (plain_reply 0) (close_call s k))
   close_ends s k h =
-      exact_ends (plain_reply 0) (plain_num V 0) s k None (close_call s k)
+      exact_ends (plain_reply 0) (λ r. grind arith) s k None (close_call s k)
       (whole s k None (closing s.table k) _ h
       (held s.table k None _ h.fit (λ th _. none_exact s.table k _ (grind arith) th))
       (λ _ _ th. (with_client_sound s s.table.session None unchecked_client k h (λ c. length-map c.cells unchecked_cell) (λ c w. w), zero_clear)))
@@ -219,7 +198,7 @@ module _ {V : Type 0} {wide many : ℕ} where
       by (Ok u) q x =
           let w = sweep_safe s.table.size k 0 0 s h in
           let o : Sweeping V = sweep_from k s.table.size s 0 0 in
-          let c : Clear (swept_reply {V = V} o.answer).answer.number = subst Clear (sym (swept_num V o.answer)) w.1 in
+          let c : Clear (swept_reply {V = V} o.answer).answer.number = subst Clear (let q : (swept_reply {V = V} o.answer).answer.number ≡ stop_num o.answer = grind arith in sym q) w.1 in
           (w.0, rightly s.table k None _ (((λ e. absurd (c.eight e)), (λ e. let z = x.0.1 e in absurd (omega arith))), c.twelve))
 
   present_exact : (s : State V) (k : ℕ) → Sound wide many s → Exact s.table k None (num (present s.table k))
@@ -228,7 +207,7 @@ module _ {V : Type 0} {wide many : ℕ} where
 
   restart_client_ends : (s : State V) (k n : ℕ) → Sound wide many s → Ends wide many s (of_client k) (replied (plain_reply 0) (restart_client_call s k n))
   restart_client_ends s k n h =
-      exact_ends (plain_reply 0) (plain_num V 0) s k None (restart_client_call s k n)
+      exact_ends (plain_reply 0) (λ r. grind arith) s k None (restart_client_call s k n)
       (whole s k None (present s.table k) _ h (present_exact s k h)
       (λ _ _ th. (with_client_sound (with_locals s (changed (after_renew n) s.locals k)) s.table.session s.table.holder restarted_client k (with_locals_sound s (after_renew n) k h (λ b. refl)) (λ c. soiled_long c.cells c.journal) (λ c _. (tt, tt)), zero_clear)))
 
@@ -240,7 +219,7 @@ module _ {V : Type 0} {wide many : ℕ} where
   commit_step_ends : (blank : V) (s : State V) (k : ℕ) → Sound wide many s → Ends wide many s (of_client k) (replied (plain_reply (taken_place (taking_to_commit s.table k))) (commit_step blank s k))
   unfolding commit_taken
   commit_step_ends blank s k h =
-      exact_ends (plain_reply _) (plain_num V _) s k None (commit_step blank s k)
+      exact_ends (plain_reply _) (λ r. grind arith) s k None (commit_step blank s k)
       (whole s k None (taking_to_commit s.table k) _ h
       (held s.table k None _ h.fit (λ th _. none_exact s.table k _ (grind arith) th))
       λ n e th.
@@ -256,7 +235,7 @@ module _ {V : Type 0} {wide many : ℕ} where
 
   give_up_step_ends : (s : State V) (k : ℕ) → Sound wide many s → Ends wide many s (of_client k) (replied (plain_reply (taken_place (taking_to_give_up s.table k))) (give_up_step s k))
   give_up_step_ends s k h =
-      exact_ends (plain_reply _) (plain_num V _) s k None (give_up_step s k)
+      exact_ends (plain_reply _) (λ r. grind arith) s k None (give_up_step s k)
       (whole s k None (taking_to_give_up s.table k) _ h
       (question s.table k None _ h.fit (λ th. none_exact s.table k _ (grind arith) th))
       (λ n _ th. give_up_safe (with_note_of s k None) n.client n.cell n.turn (with_note_sound s k None tt h)))
@@ -267,12 +246,12 @@ module _ {V : Type 0} {wide many : ℕ} where
   all_end blank s (Read k i) h = read_ends s k i h
   all_end blank s (Write k i v) h = write_ends s k i v h
   all_end blank s (Begin k i) h = begin_ends s k i h
-  all_end blank s (Commit n) h = exact_ends (plain_reply _) (plain_num V _) s n.client None (commit_call blank s n.client n.cell n.turn) (commit_exact blank s n.client n.cell n.turn h)
-  all_end blank s (GiveUp n) h = safe_ends (plain_reply _) (plain_num V _) s (give_up_call s n.client n.cell n.turn) (give_up_safe s n.client n.cell n.turn h)
+  all_end blank s (Commit n) h = exact_ends (plain_reply _) (λ r. grind arith) s n.client None (commit_call blank s n.client n.cell n.turn) (commit_exact blank s n.client n.cell n.turn h)
+  all_end blank s (GiveUp n) h = safe_ends (plain_reply _) (λ r. grind arith) s (give_up_call s n.client n.cell n.turn) (give_up_safe s n.client n.cell n.turn h)
   all_end blank s (Close k) h = close_ends s k h
   all_end blank s (Invalidate k) h = invalidate_ends s k h
   all_end blank s (RestartClient k n) h = restart_client_ends s k n h
-  all_end blank s (RestartServer n m) h = safe_ends (plain_reply _) (plain_num V _) s (restart_server_call s n m) (restart_server_safe s n m h)
+  all_end blank s (RestartServer n m) h = safe_ends (plain_reply _) (λ r. grind arith) s (restart_server_call s n m) (restart_server_safe s n m h)
   all_end blank s (BeginStep k i) h = begin_step_ends s k i h
   all_end blank s (CommitStep k) h = commit_step_ends blank s k h
   all_end blank s (GiveUpStep k) h = give_up_step_ends s k h
