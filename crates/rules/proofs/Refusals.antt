@@ -4,14 +4,12 @@ use Rattle.std.proofs.lemmas.List.{length-set, length-map}
 use Rattle.std.proofs.lemmas.Bool.{cond_both, false_from_ne_true, eq-eqb, lt-ltb, le-leb}
 use Rattle.store.specs.Stores.{after_renew}
 use Rattle.records.specs.Clients.{changed}
-use Rattle.records.specs.Faults.{says}
 use Rattle.records.specs.Cells.{new_cell, settled, fresh, sweeps, swept_cell, unchecked_cell, dirtied}
 use Rattle.records.specs.Records.{Records, cell_of, is_in_journal, with_cells, with_cell, with_journal, with_note, unchecked_client, begun_client, soiled, given_up_client, restarted_client}
 use Rattle.records.specs.Questions.{and_then, unless, there, present, holding, admitted, opening, beginning, committing, giving_up, closing, all_sent, first_from, taken_place, taking_to_commit, taking_to_give_up}
 use Rattle.records.specs.Questions as questions
 use Rattle.rules.specs.Site.{State, Outcome, outcome, next, with_table, with_disk, with_locals, disk_read, disk_write, mark_read, mark_write, local_read, local_write}
 use Rattle.rules.specs.Calls.{open_call, read_local, read_confirmed, read_fetched, read_call, write_call, begin_call, commit_call, give_up_call, close_call, sweep_record, sweep_cell, Sweeping, sweep_more, sweep_from, sweep_admitted, invalidate_call, restart_client_call, restart_server_call, with_note_of, begin_step, returned, commit_taken, commit_step, give_up_step}
-use Rattle.rules.specs.declared.answer.Stopped.{Stopped}
 use Rattle.rules.specs.Replies.{Call, Open, Read, Write, Begin, Commit, GiveUp, Close, Invalidate, RestartClient, RestartServer, BeginStep, CommitStep, GiveUpStep, NoStep, Reply, Out, replied, open_reply, read_reply, begin_reply, noted_reply, plain_reply, swept_reply, swept_out, called}
 use Rattle.rules.specs.Claim.{Asking, nobody, of_client, of_cell, asking, IsThere, Rightly}
 use Rattle.records.specs.declared.records.CellRecord.{CellRecord}
@@ -31,10 +29,6 @@ alone t k c (Err q) e = e
 
 soiled_long : (xs : List CellRecord) (j : Option ℕ) → length (map unchecked_cell (soiled xs j)) ≡ length xs
 soiled_long xs j = grind (arith, length-map, length-set)
-
-abbrev stop_num : Result ℕ Stopped → ℕ
-stop_num (Ok n) = 0
-stop_num (Err x) = (says x.fault).number
 
 -- a call of a client, or of one of its cells
 abbrev about : ℕ → Option ℕ → Asking
@@ -57,7 +51,7 @@ module _ {V : Type 0} where
   Ends wide many s a o = Sound wide many o.state × Rightly s.table a o.reply.answer.number
 
   abbrev SafeSweep : ℕ → ℕ → Sweeping V → Type 0
-  SafeSweep wide many o = Sound wide many o.state × Clear (stop_num o.answer)
+  SafeSweep wide many o = Sound wide many o.state × Clear (swept_reply {V = V} o.answer).answer.number
 
   -- the slip names the client who began
   begin_names : (s : State V) (k i : ℕ) (n : Flush) → (begin_call s k i).answer ≡ Ok n → n.client ≡ k
@@ -197,9 +191,7 @@ module _ {V : Type 0} {wide many : ℕ} where
       by (Err e) q x = (h, rightly s.table k None _ x)
       by (Ok u) q x =
           let w = sweep_safe s.table.size k 0 0 s h in
-          let o : Sweeping V = sweep_from k s.table.size s 0 0 in
-          let c : Clear (swept_reply {V = V} o.answer).answer.number = subst Clear (let q : (swept_reply {V = V} o.answer).answer.number ≡ stop_num o.answer = grind arith in sym q) w.1 in
-          (w.0, rightly s.table k None _ (((λ e. absurd (c.eight e)), (λ e. let z = x.0.1 e in absurd (omega arith))), c.twelve))
+          (w.0, rightly s.table k None _ (((λ e. absurd (w.1.eight e)), (λ e. let z = x.0.1 e in absurd (omega arith))), w.1.twelve))
 
   present_exact : (s : State V) (k : ℕ) → Sound wide many s → Exact s.table k None (num (present s.table k))
   present_exact s k h =
