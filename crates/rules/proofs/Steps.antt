@@ -42,11 +42,7 @@ module _ {V : Type 0} (blank : V) where
     pub right : ReadRight b q o.reply
 
   right_refused : (b : Book V) (q : Deed V) (r : Reply V) → eqb r.answer.number 0 ≡ false → ReadRight b q r
-  right_refused b (reads k) r e = λ z. absurd (eqb-false r.answer.number 0 e z)
-  right_refused b (writes k v) r e = tt
-  right_refused b (begins k) r e = tt
-  right_refused b (sends k) r e = tt
-  right_refused b other r e = tt
+  right_refused b q r e = grind (arith, eqb-false)
 
   abbrev Kept : State V → Book V → Type 0
   Kept s b = Inv blank s.table.size (view s) b

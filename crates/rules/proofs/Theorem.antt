@@ -1,5 +1,5 @@
 -- From a new fit site, after any list of acts, reads gave the last writes, and the disk lags only at unsent cells.
-use Rattle.std.proofs.Common.{◌≡◌, ℕ, ◌<◌, true, false, List, [], ◌∷◌, ◌++◌, map, length, get_or, Some, None, Option, unwrap_or, sym, refl, ap, ◌∙◌, subst, arith}
+use Rattle.std.proofs.Common.{◌≡◌, ℕ, ◌<◌, true, List, [], ◌∷◌, ◌++◌, map, length, get_or, Some, None, Option, unwrap_or, sym, refl, ap, ◌∙◌, subst, arith}
 use Rattle.std.proofs.lemmas.Bool.{eq-eqb}
 use Rattle.store.specs.Stores.{Stored, stored}
 use Rattle.records.specs.Cells.{fresh}
@@ -7,7 +7,7 @@ use Rattle.rules.specs.Site.{State}
 use Rattle.rules.specs.Making.{within, Start, made}
 use Rattle.rules.specs.Replies.{Call, Open, Read, Write, Begin, Commit, GiveUp, Close, Invalidate, RestartClient, RestartServer, BeginStep, CommitStep, GiveUpStep, NoStep, Reply, Out, out, called}
 use Rattle.rules.specs.Runs.{Rows, Running, running, run_calls, ran}
-use Rattle.rules.specs.Book.{Book, Stage, sent, unsent, feed, deed}
+use Rattle.rules.specs.Book.{Book, unsent, feed, deed}
 use Rattle.rules.specs.History.{Entry, Act, logged, row_log, book_of, after, log}
 use Rattle.rules.specs.Claim.{ReadRight, Fit, held_back, new_book, Lags, copy_of, CopyTrue, Upheld, Upholds, SameStart, RepliesAlike}
 use Rattle.rules.specs.Carry.{Continues, ContinuesRun}
@@ -20,9 +20,6 @@ use Rattle.rules.proofs.Invariant.{Inv, Of, At}
 use Rattle.rules.proofs.Steps.{Fine, clean_at, open_fine, read_fine, write_fine, begin_fine, commit_fine, give_up_fine, close_fine, invalidate_fine, restart_client_fine, restart_server_fine, begin_step_fine, commit_step_fine, give_up_step_fine, no_step_fine}
 use Rattle.rules.proofs.Plays.{calls, calls_after, calls_log, after_joined, log_joined, run_does, acts_do}
 use Rattle.rules.proofs.Starts.{new_inv}
-
-sent_not_unsent : (g : Stage) → g ≡ sent → unsent g ≡ false
-sent_not_unsent g e = grind arith
 
 module _ {V : Type 0} (blank : V) where
   all_fine : (s : State V) (b : Book V) (q : Call V) → Inv blank s.table.size (view s) b → Fine blank s.table.size b (deed q (called blank s q).reply.answer) (called blank s q)
@@ -72,7 +69,7 @@ module _ {V : Type 0} (blank : V) where
   -- what the invariant says of the holder
   held_exactly : (m : ℕ) (s : State V) (b : Book V) (k : ℕ) (h : Option ℕ) → s.table.holder ≡ h → At blank m (view s) (b k) k → ((c : ℕ) → Of blank m (view s) (b k) k c ((view s).clients c))
       → unsent (b k).stage ≡ held_back s.table h k
-  held_exactly m s b k None e a f = sent_not_unsent (b k).stage (a.idle (rw e refl))
+  held_exactly m s b k None e a f = let i = a.idle (rw e refl) in grind arith
   held_exactly m s b k (Some c) e a f =
       let x = (f c).exactly (rw e (eq-eqb c c refl)) in
       let r = record_is s.table c k in
