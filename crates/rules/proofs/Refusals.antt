@@ -40,7 +40,7 @@ there_true : (t : Records) (k : ℕ) → IsThere t k → there t k ≡ true
 there_true t k w = rw (lt-ltb 0 k w.0, le-leb k t.count w.1) refl
 
 eight : (t : Records) (k n : ℕ) → EightIs t k n → (n ≡ 8) ↔ (IsThere t k → ⊥)
-eight t k n q = ((λ e w. let y = there_true t k w in let n = q.0 e in cc), λ w. q.1 (false_from_ne_true (there t k) (λ e. w (there_says t k e))))
+eight t k n q = ((λ e w. let y = there_true t k w in grind arith), λ w. q.1 (false_from_ne_true (there t k) (λ e. w (there_says t k e))))
 
 rightly : (t : Records) (k : ℕ) (c : Option ℕ) (n : ℕ) → Exact t k c n → Rightly t (about k c) n
 rightly t k None n q = (eight t k n q.0, q.1)

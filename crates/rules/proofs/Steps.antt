@@ -41,15 +41,12 @@ module _ {V : Type 0} (blank : V) where
     pub inv : Inv blank m (view o.state) (fed b q o.reply.answer)
     pub right : ReadRight b q o.reply
 
-  right_refused : (b : Book V) (q : Deed V) (r : Reply V) → eqb r.answer.number 0 ≡ false → ReadRight b q r
-  right_refused b q r e = grind (arith, eqb-false)
-
   abbrev Kept : State V → Book V → Type 0
   Kept s b = Inv blank s.table.size (view s) b
 
   -- a refusal
   bad : {m : ℕ} {b : Book V} {q : Deed V} {s : State V} (e : SiteFault) (p n : ℕ) → s.table.size ≡ m → Inv blank m (view s) b → Fine m b q (out s (plain (refused p n e)))
-  bad {m} {b} {q} {s} e p n z i = record { size = z; inv = rw (fault_nonzero e) i; right = right_refused b q (plain (refused p n e)) (fault_nonzero e) }
+  bad {m} {b} {q} {s} e p n z i = record { size = z; inv = rw (fault_nonzero e) i; right = let z = fault_nonzero e in grind (arith, eqb-false) }
 
   -- client c's store was changed to l and its record by f, which the invariant sees as cl
   seen_as : {m : ℕ} {b : Book V} {ls : List (Stored V)} {l : Stored V} (s : State V) (c : ℕ) (f : ClientRecord → ClientRecord) (cl : Client V) → Relocal s.locals c l ls
