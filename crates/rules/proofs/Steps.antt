@@ -4,7 +4,7 @@ use Rattle.std.specs.Option.{is_none, option_map}
 use Rattle.std.proofs.Math.ListN.{get_or-map}
 use Rattle.std.proofs.lemmas.Grind.{get_or-set_at}
 use Rattle.std.proofs.lemmas.List.{get_or-set_same, get_or-set_other, length-set, length-map}
-use Rattle.std.proofs.lemmas.Bool.{cond_both, eqb-true, eqb-false, eq-eqb, ne_eqb, and_parts, or_parts, not-true}
+use Rattle.std.proofs.lemmas.Bool.{cond_both, eqb-true, eqb-false, eq-eqb, ne_eqb, not-true}
 use Rattle.store.specs.declared.life.Life.{Life}
 use Rattle.store.specs.Stores.{Stored, stored, after_renew}
 use Rattle.records.specs.Clients as clients
@@ -279,9 +279,6 @@ module _ {V : Type 0} (blank : V) where
       (filed_set s b c k r (store_of s.locals c) i))
 
   -- what a read's first test says
-  unsettled : (x : CellRecord) (j : Bool) → settled x j ≡ false → (x.dirty ≡ false) × (j ≡ false)
-  unsettled x j e = let z = or_parts _ _ e in (z.0, (or_parts _ _ z.1).0)
-
   pub read_fine : (s : State V) (b : Book V) (c k : ℕ) → Kept s b → Fine s.table.size b (reads k) (replied (read_reply k) (read_call s c k))
   unfolding read_local read_confirmed read_fetched
   read_fine s b c k i =
@@ -293,6 +290,7 @@ module _ {V : Type 0} (blank : V) where
       let h : k < m = y.1 in
       let w = cell_known s.table c k x y.2 in
       let xs : List V = (store_of s.locals c).cells in
+      let j = journal_is s.table c in
       let kp = own_keeps s b c k x i h w.0 in
       cond_both (settled x (is_in_journal s.table c k)) _ _ P
       (λ u.
@@ -300,10 +298,10 @@ module _ {V : Type 0} (blank : V) where
       record {
         size = refl;
         inv = aged_local s b c l ls rel i;
-        right = λ _. ap Some (read_sure kp (i.serves k h) mine (subst (λ (j : Option ℕ). settled x (names j k) ≡ true) (journal_is s.table c) u));
+        right = λ _. ap Some (read_sure kp (i.serves k h) mine (grind arith));
       })
       (λ u.
-      let clean : (x.dirty ≡ false) × (names (js s c) k ≡ false) = unsettled x _ (subst (λ (j : Option ℕ). settled x (names j k) ≡ false) (journal_is s.table c) u) in
+      let clean : (x.dirty ≡ false) × (names (js s c) k ≡ false) = grind arith in
       by_mark_read P s k _ (λ e. bad e k 0 refl i) λ lm.
       let s₁ : State V = with_marks s (stored s.marks.cells lm) in
       let i₁ : Kept s₁ b = lives blank m lm s.disk.life i in
@@ -357,8 +355,8 @@ module _ {V : Type 0} (blank : V) where
           cond_both (sweeps x (is_in_journal s.table c j)) _ _ P
           (λ u.
           let w = cell_known s.table c j x e in
-          let q = or_parts _ _ (not-true _ (and_parts _ _ u).1) in
-          let f : names (js s c) j ≡ false = sym (ap (λ o. names o j) (journal_is s.table c)) ∙ q.1 in
+          let y = journal_is s.table c in
+          let q : (x.dirty ≡ false) × (names (js s c) j ≡ false) = grind arith in
           by_mark_read P s j _ (λ z. bad z j d refl i) λ lm.
           let s₁ : State V = with_marks s (stored s.marks.cells lm) in
           let i₁ : Kept s₁ b = lives blank s.table.size lm s.disk.life i in
@@ -367,8 +365,8 @@ module _ {V : Type 0} (blank : V) where
           → Knows blank s.table.size (view s₁) (b j) j c ((view s₁).clients c) r (mark_at (view s₁) j) (disk_at blank s.table.size (view s₁) j) in
           let own : R (swept_cell x mark) =
           cond_both (fresh x.kept mark) _ _ R
-          (λ y h. check_own (own_keeps s₁ b c j x i₁ h w.0) mine q.0 f y)
-          (λ _ h. drop_own (own_keeps s₁ b c j x i₁ h w.0) q.0 f) in
+          (λ z h. check_own (own_keeps s₁ b c j x i₁ h w.0) mine q.0 q.1 z)
+          (λ _ h. drop_own (own_keeps s₁ b c j x i₁ h w.0) q.0 q.1) in
           go (with_table s₁ (with_cell s.table c j (swept_cell x mark))) _ (noticed s₁ b c j (swept_cell x mark) i₁ w.1 own) mine)
           (λ _. go s _ i mine)
 
