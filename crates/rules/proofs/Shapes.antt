@@ -230,8 +230,7 @@ Exact t k c n = EightIs t k n × TwelveIs t k c n
 
 -- a number that is neither, where the client is there and the cell is below the number of cells
 pub clear_exact : (t : Records) (k : ℕ) (c : Option ℕ) (n : ℕ) → Clear n → there t k ≡ true → ((i : ℕ) → c ≡ Some i → names t.holder k ≡ true → t.size ≤ i → ⊥) → Exact t k c n
-clear_exact t k None n h th w = (((λ e. absurd (h.eight e)), λ e. cc), h.twelve)
-clear_exact t k (Some i) n h th w = (((λ e. absurd (h.eight e)), λ e. cc), ((λ e. absurd (h.twelve e)), λ _ x y. absurd (w i refl x y)))
+clear_exact t k c n h th w = grind arith
 
 and_then_then : {X Y Z : Type 0} (r : Result X SiteFault) (f : X → Result Y SiteFault) (g : Y → Result Z SiteFault) → and_then (and_then r f) g ≡ and_then r (λ x. and_then (f x) g)
 and_then_then (Ok x) f g = refl
