@@ -11,7 +11,7 @@ use Rattle.records.specs.Cells.{new_cell}
 use Rattle.records.specs.Clients.{asked, changed}
 use Rattle.records.specs.Faults.{says}
 use Rattle.records.specs.Records.{Records, names, cell_of, journal_of, note_of}
-use Rattle.records.specs.Questions.{and_then, unless, asks, there, present, holding, admitted}
+use Rattle.records.specs.Questions.{and_then, unless, there, present, holding, admitted}
 use Rattle.rules.specs.Site.{State, Outcome, next, ◌then◌, with_table, with_disk, with_marks, with_locals, told, told_local, disk_read, disk_write, mark_read, mark_write, local_read, local_write}
 use Rattle.records.specs.declared.records.CellRecord.{CellRecord}
 use Rattle.records.specs.declared.records.ClientRecord.{ClientRecord}
@@ -238,26 +238,12 @@ and_then_then (Err e) f g = refl
 
 -- questions 7 and 8, and then g
 pub question : {Y : Type 0} (t : Records) (k : ℕ) (c : Option ℕ) (g : Result Y SiteFault) → t.unfit ≡ None → (there t k ≡ true → Exact t k c (num g)) → Exact t k c (num (and_then (present t k) (λ _. g)))
-question t k c g u h = rw u (by (there t k) refl)
-  where
-    by : (b : Bool) → there t k ≡ b → Exact t k c (num (and_then (asks b fault.NoClient) (λ _. g)))
-    by true e = h e
-    by false e = ((λ _. e, λ _. refl), absent c)
-      where
-        absent : (x : Option ℕ) → TwelveIs t k x 8
-        absent None = λ z. omega arith
-        absent (Some i) = ((λ z. absurd (omega arith)), λ z. cc)
+question t k c g u h = grind arith
 
 -- questions 7, 8 and 11, and then g
 pub held : {Y : Type 0} (t : Records) (k : ℕ) (c : Option ℕ) (g : Result Y SiteFault) → t.unfit ≡ None → (there t k ≡ true → names t.holder k ≡ true → Exact t k c (num g))
     → Exact t k c (num (and_then (holding t k) (λ _. g)))
-held {Y} t k c g u h =
-    subst (λ (r : Result Y SiteFault). Exact t k c (num r)) (sym (and_then_then (present t k) _ _))
-    (question t k c (and_then (asks (names t.holder k) fault.NotHolding) (λ _. g)) u (λ th. by (names t.holder k) refl th))
-  where
-    by : (b : Bool) → names t.holder k ≡ b → there t k ≡ true → Exact t k c (num (and_then (asks b fault.NotHolding) (λ _. g)))
-    by true e th = h th e
-    by false e th = clear_exact t k c 11 (grind arith) th (λ i _ x _. cc)
+held t k c g u h = grind arith
 
 module _ {V : Type 0} {wide many : ℕ} where
   -- every cell of a client that is there has a record
