@@ -1,7 +1,7 @@
 -- A fit site's parts go on fitting together, so that 8 and 12 are answered only by their own questions.
-use Rattle.std.proofs.Common.{◌≡◌, ℕ, zero, suc, ◌+◌, ◌<◌, ◌≤◌, Bool, true, false, ltb, ◌↔◌, List, [], ◌∷◌, map, length, get_or, replicate, Some, None, Ok, Err, Option, Result, sym, refl, ap, ◌∙◌, subst, arith}
+use Rattle.std.proofs.Common.{◌≡◌, ℕ, zero, suc, ◌+◌, ◌<◌, ◌≤◌, true, false, ◌↔◌, List, [], ◌∷◌, map, length, get_or, replicate, Some, None, Ok, Err, Option, Result, sym, refl, ap, ◌∙◌, subst, arith}
 use Rattle.std.specs.List.{slice_get}
-use Rattle.std.specs.Option.{ok_or, option_flatten, option_map}
+use Rattle.std.specs.Option.{option_flatten, option_map}
 use Rattle.std.proofs.lemmas.List.{length-set}
 use Rattle.std.proofs.lemmas.Option.{slice_get-get_or}
 use Rattle.std.proofs.lemmas.Bool.{ltb-true, ltb-false, leb-true, and_parts}
@@ -11,13 +11,12 @@ use Rattle.records.specs.Cells.{new_cell}
 use Rattle.records.specs.Clients.{asked, changed}
 use Rattle.records.specs.Faults.{says}
 use Rattle.records.specs.Records.{Records, names, cell_of, journal_of, note_of}
-use Rattle.records.specs.Questions.{and_then, unless, there, present, holding, admitted}
+use Rattle.records.specs.Questions.{and_then, there, present, holding, admitted}
 use Rattle.rules.specs.Site.{State, Outcome, next, ◌then◌, with_table, with_disk, with_marks, with_locals, told, told_local, disk_read, disk_write, mark_read, mark_write, local_read, local_write}
 use Rattle.records.specs.declared.records.CellRecord.{CellRecord}
 use Rattle.records.specs.declared.records.ClientRecord.{ClientRecord}
 use Rattle.records.specs.declared.records.Flush.{Flush}
 use Rattle.records.specs.declared.fault.SiteFault.{SiteFault}
-use Rattle.records.specs.declared.fault.SiteFault.TheVariants as fault
 use Rattle.records.specs.declared.fault.StoreName.{StoreName}
 use Rattle.records.specs.declared.fault.StoreName.TheVariants.{Local, Marks, Disk}
 use Rattle.records.specs.declared.fault.Operation.{Operation}
@@ -260,32 +259,9 @@ module _ {V : Type 0} {wide many : ℕ} where
   -- questions 7, 8, 11 and 12, and then g of the cell's record
   pub celled : {Y : Type 0} (s : State V) (k i : ℕ) (g : CellRecord → Result Y SiteFault) → Sound wide many s → ((r : CellRecord) → Clear (num (g r)))
       → Exact s.table k (Some i) (num (and_then (admitted s.table k i) g))
-  celled {Y} s k i g h cl =
-      subst (λ (r : Result Y SiteFault). Exact s.table k (Some i) (num r)) (sym (and_then_then (holding s.table k) _ g))
-      (held s.table k (Some i) _ h.fit (λ th hd. by (ltb i s.table.size) refl th))
-    where
-      cell_asks : Bool → Result CellRecord SiteFault
-      cell_asks b = unless b fault.NoCell (ok_or (cell_of s.table k i) fault.NoCell)
-
-      by : (b : Bool) → ltb i s.table.size ≡ b → there s.table k ≡ true → Exact s.table k (Some i) (num (and_then (cell_asks b) g))
-      by true e th =
-          let l : i < s.table.size = ltb-true _ _ e in
-          let r = record_there s k i h th l in
-          subst (λ (o : Option CellRecord). Exact s.table k (Some i) (num (and_then (ok_or o fault.NoCell) g))) (sym r.1)
-          (clear_exact s.table k (Some i) _ (cl r.0) th (λ j q _ y. let q' : i ≡ j = cc in omega arith))
-      by false e th =
-          (((λ z. absurd (omega arith)), λ z. cc), ((λ _. ltb-false _ _ e), λ _ _ _. refl))
+  celled s k i g h cl = let y = record_there s k i h in let u = h.fit in grind (arith, ltb-true, ltb-false, record_there s k i h)
 
   -- a call: its questions r, and what follows
   pub whole : {X Y : Type 0} (s : State V) (k : ℕ) (c : Option ℕ) (r : Result X SiteFault) (f : State V → X → Outcome V Y) → Sound wide many s → Exact s.table k c (num r)
       → ((x : X) → r ≡ Ok x → there s.table k ≡ true → Safe wide many (f s x)) → Sound wide many (next s r f).state × Exact s.table k c (num (next s r f).answer)
-  whole s k c (Err e) f h q go = (h, q)
-  whole s k c (Ok x) f h q go = by (there s.table k) refl
-    where
-      past : (c : Option ℕ) → TwelveIs s.table k c 0 → there s.table k ≡ true → (i : ℕ) → c ≡ Some i → names s.table.holder k ≡ true → s.table.size ≤ i → ⊥
-      past None w th i e a l = cc
-      past (Some j) w th i e a l = let e' : j ≡ i = cc in let z = w.1 th a (omega arith) in omega arith
-
-      by : (b : Bool) → there s.table k ≡ b → Sound wide many (f s x).state × Exact s.table k c (num (f s x).answer)
-      by true th = let w = go x refl th in (w.0, clear_exact s.table k c _ w.1 th (past c q.1 th))
-      by false th = let z = q.0.1 th in absurd (omega arith)
+  whole s k c r f h q go = grind arith
