@@ -24,8 +24,7 @@ none_exact t k n c th = clear_exact t k None n c th (λ i e _ _. cc)
 
 -- questions and nothing more
 alone : {X : Type 0} (t : Records) (k : ℕ) (c : Option ℕ) (r : Result X SiteFault) → Exact t k c (num (and_then r (λ x. Ok x))) → Exact t k c (num r)
-alone t k c (Ok x) e = e
-alone t k c (Err q) e = e
+alone t k c r e = grind arith
 
 soiled_long : (xs : List CellRecord) (j : Option ℕ) → length (map unchecked_cell (soiled xs j)) ≡ length xs
 soiled_long xs j = grind (arith, length-map, length-set)

@@ -190,11 +190,7 @@ module _ {V : Type 0} {wide many : ℕ} where
       subst (λ (r : Option (Result X Fault)). Clear (num (told_local i o r))) (sym (asked_as f s.locals k ∙ ap (option_map f) b.1)) (told_clear Local i o (f b.0))
 
   pub safe_then : {X Y : Type 0} (o : Outcome V X) (f : State V → X → Outcome V Y) → Safe wide many o → ((x : X) → Sound wide many o.state → Safe wide many (f o.state x)) → Safe wide many (o then f)
-  safe_then {X} {Y} o f h go = by o.answer h.1
-    where
-      by : (r : Result X SiteFault) → Clear (num r) → Safe wide many (next o.state r f)
-      by (Ok x) c = go x h.0
-      by (Err e) c = (h.0, c)
+  safe_then o f h go = grind arith
 
   pub disk_read_safe : (s : State V) (i : ℕ) → Sound wide many s → Safe wide many (disk_read s i)
   disk_read_safe s i h = (with_disk_sound s _ h (read_long s.disk i), told_clear Disk i Read (read_answer s.disk i))
@@ -231,10 +227,6 @@ Exact t k c n = EightIs t k n × TwelveIs t k c n
 pub clear_exact : (t : Records) (k : ℕ) (c : Option ℕ) (n : ℕ) → Clear n → there t k ≡ true → ((i : ℕ) → c ≡ Some i → names t.holder k ≡ true → t.size ≤ i → ⊥) → Exact t k c n
 clear_exact t k c n h th w = grind arith
 
-and_then_then : {X Y Z : Type 0} (r : Result X SiteFault) (f : X → Result Y SiteFault) (g : Y → Result Z SiteFault) → and_then (and_then r f) g ≡ and_then r (λ x. and_then (f x) g)
-and_then_then (Ok x) f g = refl
-and_then_then (Err e) f g = refl
-
 -- questions 7 and 8, and then g
 pub question : {Y : Type 0} (t : Records) (k : ℕ) (c : Option ℕ) (g : Result Y SiteFault) → t.unfit ≡ None → (there t k ≡ true → Exact t k c (num g)) → Exact t k c (num (and_then (present t k) (λ _. g)))
 question t k c g u h = grind arith
@@ -259,7 +251,7 @@ module _ {V : Type 0} {wide many : ℕ} where
   -- questions 7, 8, 11 and 12, and then g of the cell's record
   pub celled : {Y : Type 0} (s : State V) (k i : ℕ) (g : CellRecord → Result Y SiteFault) → Sound wide many s → ((r : CellRecord) → Clear (num (g r)))
       → Exact s.table k (Some i) (num (and_then (admitted s.table k i) g))
-  celled s k i g h cl = let y = record_there s k i h in let u = h.fit in grind (arith, ltb-true, ltb-false, record_there s k i h)
+  celled s k i g h cl = let u = h.fit in grind (arith, ltb-true, ltb-false, record_there s k i h)
 
   -- a call: its questions r, and what follows
   pub whole : {X Y : Type 0} (s : State V) (k : ℕ) (c : Option ℕ) (r : Result X SiteFault) (f : State V → X → Outcome V Y) → Sound wide many s → Exact s.table k c (num r)
