@@ -1,5 +1,5 @@
 -- Each call leaves a sound site, and answers 8 and 12 only by their own questions.
-use Rattle.std.proofs.Common.{◌≡◌, ℕ, zero, suc, ◌+◌, Bool, true, false, cond, ◌↔◌, List, map, length, get_or, set, Some, None, Ok, Err, Option, Result, sym, refl, subst, arith}
+use Rattle.std.proofs.Common.{◌≡◌, ℕ, zero, suc, ◌+◌, true, false, ◌↔◌, List, map, length, get_or, set, Some, None, Ok, Err, Option, Result, sym, refl, subst, arith}
 use Rattle.std.proofs.lemmas.List.{length-set, length-map}
 use Rattle.std.proofs.lemmas.Bool.{cond_both, false_from_ne_true, eq-eqb, lt-ltb, le-leb}
 use Rattle.store.specs.Stores.{after_renew}
@@ -9,7 +9,7 @@ use Rattle.records.specs.Records.{Records, cell_of, is_in_journal, with_cells, w
 use Rattle.records.specs.Questions.{and_then, unless, there, present, holding, admitted, opening, beginning, committing, giving_up, closing, all_sent, first_from, taken_place, taking_to_commit, taking_to_give_up}
 use Rattle.records.specs.Questions as questions
 use Rattle.rules.specs.Site.{State, Outcome, outcome, next, with_table, with_disk, with_locals, disk_read, disk_write, mark_read, mark_write, local_read, local_write}
-use Rattle.rules.specs.Calls.{open_call, read_local, read_confirmed, read_fetched, read_call, write_call, begin_call, commit_call, give_up_call, close_call, sweep_record, sweep_cell, Sweeping, sweep_more, sweep_from, sweep_admitted, invalidate_call, restart_client_call, restart_server_call, with_note_of, begin_step, returned, commit_taken, commit_step, give_up_step}
+use Rattle.rules.specs.Calls.{open_call, read_local, read_confirmed, read_fetched, read_call, write_call, begin_call, commit_call, give_up_call, close_call, sweep_record, sweep_cell, Sweeping, sweep_from, sweep_admitted, invalidate_call, restart_client_call, restart_server_call, with_note_of, begin_step, returned, commit_taken, commit_step, give_up_step}
 use Rattle.rules.specs.Replies.{Call, Open, Read, Write, Begin, Commit, GiveUp, Close, Invalidate, RestartClient, RestartServer, BeginStep, CommitStep, GiveUpStep, NoStep, Reply, Out, replied, open_reply, read_reply, begin_reply, noted_reply, plain_reply, swept_reply, swept_out, called}
 use Rattle.rules.specs.Claim.{Asking, nobody, of_client, of_cell, asking, IsThere, Rightly}
 use Rattle.records.specs.declared.records.CellRecord.{CellRecord}
@@ -174,12 +174,10 @@ module _ {V : Type 0} {wide many : ℕ} where
   sweep_safe : (n k i d : ℕ) (s : State V) → Sound wide many s → SafeSweep wide many (sweep_from k n s i d)
   unfolding sweep_from
   sweep_safe zero k i d s h = (h, zero_clear)
-  sweep_safe (suc n) k i d s h = by (sweep_cell s k i).answer (sweep_cell_safe s k i h) (λ d' h'. sweep_safe n k (i + 1) d' (sweep_cell s k i).state h')
-    where
-      by : (r : Result Bool SiteFault) → Sound wide many (sweep_cell s k i).state × Clear (num r) → ((d' : ℕ) → Sound wide many (sweep_cell s k i).state → SafeSweep wide many (sweep_from k n (sweep_cell s k i).state (i + 1) d'))
-          → SafeSweep wide many (sweep_more (sweep_from k n) (sweep_cell s k i).state r i d)
-      by (Ok b) w go = go (d + cond b 1 0) w.0
-      by (Err e) w go = w
+  sweep_safe (suc n) k i d s h =
+      let w = sweep_cell_safe s k i h in
+      let go = λ (d' : ℕ) (h' : Sound wide many (sweep_cell s k i).state). sweep_safe n k (i + 1) d' (sweep_cell s k i).state h' in
+      grind (arith, go)
 
   invalidate_ends : (s : State V) (k : ℕ) → Sound wide many s → Ends wide many s (of_client k) (swept_out (invalidate_call s k))
   invalidate_ends s k h =
