@@ -102,6 +102,10 @@ module _ {V : Type 0} (blank : V) where
   own_keeps s b c k x i h e =
       subst (λ (r : CellRecord). Knows blank s.table.size (view s) (b k) k c ((view s).clients c) r (mark_at (view s) k) (disk_at blank s.table.size (view s) k)) e (i.keeps k c h)
 
+  begun_client : (b : Stored V) (o : Option ClientRecord) (k : ℕ) (r : CellRecord) (n : ℕ) → k < length (cells_in o)
+      → seen b (option_map (λ c. records.begun_client c k r n) o) ≡ record { local = b; cells = set (cells_in o) k (dirtied false r); journal = Some k }
+  begun_client b o k r n h = grind arith
+
   pub begin_fine : (s : State V) (b : Book V) (c k : ℕ) → Kept s b → Fine s.table.size b (begins k) (replied (begin_reply k) (begin_call s c k))
   begin_fine s b c k i =
       let m : ℕ = s.table.size in
@@ -125,7 +129,7 @@ module _ {V : Type 0} (blank : V) where
       record {
         size = refl;
         inv =
-            seen_as s₁ c _ cl rel' (grind arith)
+            seen_as s₁ c _ cl rel' (begun_client _ (client_of s.table c) k x xn.1 w.1)
             (moved blank m (view s₁) b c k cl (staged (b k) begun) i₁
             (λ _. unsent_serves (i₁.serves k h) (somebody s.table.holder c y.0) (b k).last begun refl)
             (λ _. rw (get_or-set_same (cs s c) k r new_cell w.1, get_or-set_other xs m k v blank n, get_or-set_same xs m v blank z, eq-eqb k k refl, same) (begin_own (own_keeps s₁ b c k x i₁ h w.0) y.0 y.4))
