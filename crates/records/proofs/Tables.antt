@@ -3,12 +3,12 @@ use Rattle.std.proofs.Common.{◌≤◌, ◌≡◌, ℕ, zero, suc, ◌+◌, ◌
 use Rattle.std.proofs.lemmas.Bool.{cases_lt}
 use Rattle.std.proofs.lemmas.Option.{slice_get-get_or, slice_get_past}
 use Rattle.std.specs.Borrow.{Bor}
-use Rattle.std.specs.Option.{option_copied, option_map}
+use Rattle.std.specs.Option.{option_copied, option_flatten, option_map}
 use Rattle.std.specs.Slice.{IsItemAt}
 use Rattle.records.specs.Clients.{asked, changed}
 use Rattle.records.specs.Means.{records}
 use Rattle.records.specs.Questions.{first_from}
-use Rattle.records.specs.Records.{Records, joined, client_of, cell_of, journal_of, note_of, turn_of, flushing, flush_is, with_clients}
+use Rattle.records.specs.Records.{Records, client_of, cell_of, journal_of, note_of, turn_of, flushing, flush_is, with_clients}
 use Rattle.records.specs.Shape.{no_client, Stands}
 use Rattle.records.specs.declared.records.ClientRecord.{ClientRecord}
 use Rattle.records.specs.declared.table.Table.TheInside.{Inside}
@@ -19,8 +19,8 @@ pub item_copied : {X : Type 0} (xs : List X) (i : ℕ) (r : Option (Bor X)) → 
 item_copied xs i None h = sym (slice_get_past xs i (grind arith))
 item_copied xs i (Some x) h = let l : i < length xs = grind arith in sym (slice_get-get_or xs i x.now l ∙ grind arith)
 
--- a question to client k's record is one to the record that was found
-asked_as : {X : Type 0} (f : ClientRecord → X) (cs : List ClientRecord) (k : ℕ) → asked f cs k ≡ option_map f (asked (λ c. c) cs k)
+-- a question to client k's entry is one to the entry that was found
+pub asked_as : {X Y : Type 0} (f : X → Y) (cs : List X) (k : ℕ) → asked f cs k ≡ option_map f (asked (λ c. c) cs k)
 asked_as f [] k = refl
 asked_as f (c ∷ cs) zero = refl
 asked_as f (c ∷ cs) (suc zero) = refl
@@ -28,17 +28,17 @@ asked_as f (c ∷ cs) (suc (suc k)) = asked_as f cs (suc k)
 
 -- what is asked of client k's record, by the record
 module _ (t : Records) (k : ℕ) where
-  pub cell_is : (i : ℕ) → cell_of t k i ≡ joined (option_map (λ c. slice_get c.cells i) (client_of t k))
+  pub cell_is : (i : ℕ) → cell_of t k i ≡ option_flatten (option_map (λ c. slice_get c.cells i) (client_of t k))
   unfolding cell_of client_of
-  cell_is i = ap joined (asked_as (λ c. slice_get c.cells i) t.clients k)
+  cell_is i = ap option_flatten (asked_as (λ c. slice_get c.cells i) t.clients k)
 
-  pub journal_is : journal_of t k ≡ joined (option_map (λ c. c.journal) (client_of t k))
+  pub journal_is : journal_of t k ≡ option_flatten (option_map (λ c. c.journal) (client_of t k))
   unfolding journal_of client_of
-  journal_is = ap joined (asked_as (λ c. c.journal) t.clients k)
+  journal_is = ap option_flatten (asked_as (λ c. c.journal) t.clients k)
 
-  pub note_is : note_of t k ≡ joined (option_map (λ c. c.note) (client_of t k))
+  pub note_is : note_of t k ≡ option_flatten (option_map (λ c. c.note) (client_of t k))
   unfolding note_of client_of
-  note_is = ap joined (asked_as (λ c. c.note) t.clients k)
+  note_is = ap option_flatten (asked_as (λ c. c.note) t.clients k)
 
   pub turn_is : turn_of t k ≡ unwrap_or (option_map (λ c. c.turn) (client_of t k)) 0
   unfolding turn_of client_of

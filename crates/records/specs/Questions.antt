@@ -1,6 +1,7 @@
 -- The questions 7 to 17 that are asked of the records, in the order in which each call asks them: the first no gives its refusal.
 use Rattle.std.specs.Prelude.{ℕ, zero, suc, ◌+◌, Bool, cond, ◌&&◌, Some, None, Ok, Err, Option, Result, nat_le, nat_lt}
-use Rattle.records.specs.Records.{Records, top, names, is_none, cell_of, journal_of, note_of, turn_of, flushing, unsent_at}
+use Rattle.std.specs.Option.{is_none, ok_or}
+use Rattle.records.specs.Records.{Records, top, names, cell_of, journal_of, note_of, turn_of, flushing, unsent_at}
 use Rattle.records.specs.declared.records.CellRecord.{CellRecord}
 use Rattle.records.specs.declared.records.Flush.{Flush}
 use Rattle.records.specs.declared.fault.SiteFault.{SiteFault}
@@ -35,14 +36,9 @@ present t k = unless (is_none t.unfit) fault.Unfit (asks (there t k) fault.NoCli
 abbrev pub holding : Records → ℕ → Result (Unit {0}) SiteFault
 holding t k = and_then (present t k) (λ _. asks (names t.holder k) fault.NotHolding)
 
--- the record of a cell; every cell of a client that is there has one
-abbrev pub found : Option CellRecord → Result CellRecord SiteFault
-found None = Err fault.NoCell
-found (Some r) = Ok r
-
--- 7, 8, 11 and 12: is the cell below the number of cells? It gives the cell's record
+-- 7, 8, 11 and 12: is the cell below the number of cells? It gives the cell's record; every cell of a client that is there has one
 abbrev pub admitted : Records → ℕ → ℕ → Result CellRecord SiteFault
-admitted t k i = and_then (holding t k) (λ _. unless (nat_lt i t.size) fault.NoCell (found (cell_of t k i)))
+admitted t k i = and_then (holding t k) (λ _. unless (nat_lt i t.size) fault.NoCell (ok_or (cell_of t k i) fault.NoCell))
 
 -- open: 7, 8, 9, does nobody hold? and 10, is the session below the largest number? It gives the next session
 abbrev pub opening : Records → ℕ → Result ℕ SiteFault
@@ -82,8 +78,7 @@ closing t k = and_then (holding t k) (λ _. all_sent (first_from (unsent_at t k)
 
 -- a slip that is noted, or 16
 abbrev pub taken_up : Option Flush → Result Flush SiteFault
-taken_up None = Err fault.NoFlush
-taken_up (Some n) = Ok n
+taken_up n = ok_or n fault.NoFlush
 
 -- a run's step 5: 7, 8 and 11, and then the slip that client k has noted
 abbrev pub taking_to_commit : Records → ℕ → Result Flush SiteFault

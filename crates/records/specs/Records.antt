@@ -1,7 +1,7 @@
 -- The records of a site, by client number from 1 and cell number from 0, and how they change.
 use Rattle.std.specs.Prelude.{ℕ, Bool, true, false, ◌&&◌, ◌||◌, List, map, replicate, Some, None, Option, ◌==◌, slice_index_or, slice_set}
 use Rattle.std.specs.List.{slice_get}
-use Rattle.std.specs.Option.{unwrap_or}
+use Rattle.std.specs.Option.{unwrap_or, option_flatten}
 use Rattle.records.specs.Clients.{asked, changed}
 use Rattle.records.specs.Cells.{new_cell, unchecked_cell, dirtied}
 use Rattle.records.specs.declared.records.CellRecord.{CellRecord}
@@ -23,20 +23,10 @@ pub record Records : Type 0 where
 abbrev pub top : ℕ
 top = 4294967295
 
--- a value within a value that may be missing
-abbrev pub joined : {X : Type 0} → Option (Option X) → Option X
-joined None = None
-joined (Some o) = o
-
 -- is it that number?
 abbrev pub names : Option ℕ → ℕ → Bool
 names None k = false
 names (Some i) k = i == k
-
--- is there nothing?
-abbrev pub is_none : {X : Type 0} → Option X → Bool
-is_none None = true
-is_none (Some x) = false
 
 -- client k's record, if there is one
 unfoldable pub client_of : Records → ℕ → Option ClientRecord
@@ -44,13 +34,13 @@ client_of t k = asked (λ c. c) t.clients k
 
 -- what client k's record says: of cell i; which cell is in the journal; the note; and the turn, which counts the flushes begun
 unfoldable pub cell_of : Records → ℕ → ℕ → Option CellRecord
-cell_of t k i = joined (asked (λ c. slice_get c.cells i) t.clients k)
+cell_of t k i = option_flatten (asked (λ c. slice_get c.cells i) t.clients k)
 
 unfoldable pub journal_of : Records → ℕ → Option ℕ
-journal_of t k = joined (asked (λ c. c.journal) t.clients k)
+journal_of t k = option_flatten (asked (λ c. c.journal) t.clients k)
 
 unfoldable pub note_of : Records → ℕ → Option Flush
-note_of t k = joined (asked (λ c. c.note) t.clients k)
+note_of t k = option_flatten (asked (λ c. c.note) t.clients k)
 
 unfoldable pub turn_of : Records → ℕ → ℕ
 turn_of t k = unwrap_or (asked (λ c. c.turn) t.clients k) 0

@@ -1,20 +1,16 @@
 -- For a crate that carries the rules out: runs of the same steps on two sites that were made and handled alike end alike.
-use Rattle.std.proofs.Common.{◌≡◌, Bool, cond, List, [], sym, ap, ◌∙◌}
+use Rattle.std.proofs.Common.{◌≡◌, sym, ap, ◌∙◌}
 use Rattle.rules.specs.Site.{State}
 use Rattle.rules.specs.Making.{Start, made}
 use Rattle.rules.specs.Replies.{called}
-use Rattle.rules.specs.Runs.{Rows, equally_long, calls_of, Running, run_calls, ran}
+use Rattle.rules.specs.Runs.{Rows, equally_long, Running, run_calls, ran}
 use Rattle.rules.specs.Carry.{LeftAlike, RunsAlike}
 use Rattle.rules.specs.History.{after}
-use Rattle.rules.specs.declared.step.Step.{Step}
 use Rattle.rules.proofs.Plays.{calls_after, calls_log, run_does}
 use Rattle.rules.proofs.Theorem.{same_start}
 
 same_calls : {V : Type 0} (p q : Rows V) → p.steps ≡ q.steps → p.given ≡ q.given → equally_long p ≡ equally_long q → run_calls p ≡ run_calls q
-same_calls {V} p q steps given long =
-    ap (λ (b : Bool). cond b (calls_of p.steps p.given) []) long
-    ∙ ap (λ (xs : List Step). cond (equally_long q) (calls_of xs p.given) []) steps
-    ∙ ap (λ (vs : List V). cond (equally_long q) (calls_of q.steps vs) []) given
+same_calls p q steps given long = cc
 
 module _ {V : Type 0} (blank : V) (s t : State V) (p q : Rows V) where
   left_alike : s ≡ t → run_calls p ≡ run_calls q → LeftAlike p q (ran (called blank) s p) (ran (called blank) t q)
@@ -22,13 +18,13 @@ module _ {V : Type 0} (blank : V) (s t : State V) (p q : Rows V) where
   left_alike e c =
       let d = run_does blank s p in
       let d' = run_does blank t q in
-      let logs = ap (λ (u : State V). calls_log (called blank) u (run_calls p)) e ∙ ap (calls_log (called blank) t) c in
-      let ends = ap (λ (u : State V). calls_after (called blank) u (run_calls p)) e ∙ ap (calls_after (called blank) t) c in
+      let logs : calls_log (called blank) s (run_calls p) ≡ calls_log (called blank) t (run_calls q) = rw (e, c) in
+      let ends : calls_after (called blank) s (run_calls p) ≡ calls_after (called blank) t (run_calls q) = rw (e, c) in
       record {
         replies = d.1 ∙ logs ∙ sym d'.1;
         records = ap (λ (u : State V). u.table) (d.0 ∙ ends ∙ sym d'.0);
         rows = λ same.
-            let f : ran (called blank) s p ≡ ran (called blank) t q = ap (λ (u : State V). ran (called blank) u p) e ∙ ap (ran (called blank) t) same in
+            let f : ran (called blank) s p ≡ ran (called blank) t q = rw (e, same) in
             (ap (λ (w : Running V). w.answers) f, ap (λ (w : Running V). w.got) f);
       }
 

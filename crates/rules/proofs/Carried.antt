@@ -13,40 +13,40 @@ use Rattle.rules.proofs.Theorem.{continues}
 module _ {V : Type 0} (blank : V) (s s' : State V) where
   pub open_carried : (k : ℕ) (r : Result ℕ SiteFault) → outcome s' r ≡ open_call s k → Continues blank s (Open k) s' (open_reply r)
   unfolding called
-  open_carried k r e = continues blank s (Open k) s' (open_reply r) (ap (replied open_reply) e)
+  open_carried k r e = continues _ _ _ _ _ (ap (replied open_reply) e)
 
   pub read_carried : (k i : ℕ) (r : Result (V × Source) SiteFault) → outcome s' r ≡ read_call s k i → Continues blank s (Read k i) s' (read_reply i r)
   unfolding called
-  read_carried k i r e = continues blank s (Read k i) s' (read_reply i r) (ap (replied (read_reply i)) e)
+  read_carried k i r e = continues _ _ _ _ _ (ap (replied (read_reply i)) e)
 
   pub write_carried : (k i : ℕ) (v : V) (r : Result (Unit {0}) SiteFault) → outcome s' r ≡ write_call s k i v → Continues blank s (Write k i v) s' (plain_reply i r)
   unfolding called
-  write_carried k i v r e = continues blank s (Write k i v) s' (plain_reply i r) (ap (replied (plain_reply i)) e)
+  write_carried k i v r e = continues _ _ _ _ _ (ap (replied (plain_reply i)) e)
 
   pub begin_carried : (k i : ℕ) (r : Result Flush SiteFault) → outcome s' r ≡ begin_call s k i → Continues blank s (Begin k i) s' (begin_reply i r)
   unfolding called
-  begin_carried k i r e = continues blank s (Begin k i) s' (begin_reply i r) (ap (replied (begin_reply i)) e)
+  begin_carried k i r e = continues _ _ _ _ _ (ap (replied (begin_reply i)) e)
 
   pub commit_carried : (n : Flush) (r : Result (Unit {0}) SiteFault) → outcome s' r ≡ commit_call blank s n.client n.cell n.turn → Continues blank s (Commit n) s' (plain_reply n.cell r)
   unfolding called
-  commit_carried n r e = continues blank s (Commit n) s' (plain_reply n.cell r) (ap (replied (plain_reply n.cell)) e)
+  commit_carried n r e = continues _ _ _ _ _ (ap (replied (plain_reply n.cell)) e)
 
   pub give_up_carried : (n : Flush) (r : Result (Unit {0}) SiteFault) → outcome s' r ≡ give_up_call s n.client n.cell n.turn → Continues blank s (GiveUp n) s' (plain_reply n.cell r)
   unfolding called
-  give_up_carried n r e = continues blank s (GiveUp n) s' (plain_reply n.cell r) (ap (replied (plain_reply n.cell)) e)
+  give_up_carried n r e = continues _ _ _ _ _ (ap (replied (plain_reply n.cell)) e)
 
   pub close_carried : (k : ℕ) (r : Result (Unit {0}) SiteFault) → outcome s' r ≡ close_call s k → Continues blank s (Close k) s' (plain_reply 0 r)
   unfolding called
-  close_carried k r e = continues blank s (Close k) s' (plain_reply 0 r) (ap (replied (plain_reply 0)) e)
+  close_carried k r e = continues _ _ _ _ _ (ap (replied (plain_reply 0)) e)
 
   pub invalidate_carried : (k : ℕ) (r : Result ℕ Stopped) → sweeping s' r ≡ invalidate_call s k → Continues blank s (Invalidate k) s' (swept_reply r)
   unfolding called
-  invalidate_carried k r e = continues blank s (Invalidate k) s' (swept_reply r) (ap swept_out e)
+  invalidate_carried k r e = continues _ _ _ _ _ (ap swept_out e)
 
   pub restart_client_carried : (k n : ℕ) (r : Result (Unit {0}) SiteFault) → outcome s' r ≡ restart_client_call s k n → Continues blank s (RestartClient k n) s' (plain_reply 0 r)
   unfolding called
-  restart_client_carried k n r e = continues blank s (RestartClient k n) s' (plain_reply 0 r) (ap (replied (plain_reply 0)) e)
+  restart_client_carried k n r e = continues _ _ _ _ _ (ap (replied (plain_reply 0)) e)
 
   pub restart_server_carried : (n m : ℕ) (r : Result (Unit {0}) SiteFault) → outcome s' r ≡ restart_server_call s n m → Continues blank s (RestartServer n m) s' (plain_reply 0 r)
   unfolding called
-  restart_server_carried n m r e = continues blank s (RestartServer n m) s' (plain_reply 0 r) (ap (replied (plain_reply 0)) e)
+  restart_server_carried n m r e = continues _ _ _ _ _ (ap (replied (plain_reply 0)) e)

@@ -1,5 +1,5 @@
 -- A new fit site is sound, and stays so whatever is done to it.
-use Rattle.std.proofs.Common.{◌≡◌, ℕ, zero, suc, ◌+◌, ◌≤◌, Bool, true, false, cond, ◌&&◌, eqb, ltb, leb, List, [], ◌∷◌, map, length, replicate, Some, None, Option, sym, refl, ap, ◌∙◌, subst, arith}
+use Rattle.std.proofs.Common.{◌≡◌, ℕ, zero, suc, ◌+◌, ◌≤◌, true, List, [], ◌∷◌, map, length, replicate, None, Option, sym, refl, ap, ◌∙◌, subst}
 use Rattle.std.proofs.lemmas.List.{length-replicate}
 use Rattle.std.proofs.lemmas.Bool.{leb-true, eqb-true, and_parts}
 use Rattle.store.specs.Lengths.{all_long}
@@ -8,17 +8,15 @@ use Rattle.records.specs.Cells.{new_cell}
 use Rattle.records.specs.Clients.{asked}
 use Rattle.records.specs.Records.{new_client, new_clients}
 use Rattle.rules.specs.Site.{State}
-use Rattle.rules.specs.Making.{Looked, looked, look_from, within, surveyed, Start, made}
+use Rattle.rules.specs.Making.{Looked, within, surveyed, Start, made}
 use Rattle.rules.specs.Replies.{Call, called}
 use Rattle.rules.specs.History.{after}
 use Rattle.rules.specs.Claim.{Fit, Shaped, KeepsShape}
 use Rattle.records.specs.declared.fault.Unfit.{Unfit}
-use Rattle.records.specs.declared.fault.Unfit.TheVariants.{DiskSize, MarksSize, ClientCount, LocalSize}
 use Rattle.rules.proofs.Plays.{calls, calls_after, acts_do}
-use Rattle.rules.proofs.Starts.{look_says, replicated}
+use Rattle.rules.proofs.Starts.{look_says, new_client_is, survey_finds}
 use Rattle.rules.proofs.Shapes.{Sound, ProperAt, note_own, journal_inside, cells_count, records_count}
 use Rattle.rules.proofs.Refusals.{all_end}
-use Rattle.rules.proofs.Sizes.{AsMany, calls_kept}
 
 -- what the six questions say when none is a no
 record Measured {V : Type 0} (d : Stored V) (ms : Stored ℕ) (ls : List (Stored V)) (o : Looked) : Type 0 where
@@ -28,24 +26,10 @@ record Measured {V : Type 0} (d : Stored V) (ms : Stored ℕ) (ls : List (Stored
   pub one_more : all_long (length d.cells + 1) ls ≡ true
   pub marks_same : o.marks.cells ≡ ms.cells
 
-never : {P : Type 0} (u : Unfit) → ◌≡◌ {A = Option Unfit} (Some u) None → P
-never u e = let z : ◌≡◌ {A = ℕ} 0 1 = cc in absurd (omega arith)
-
 survey_says : {V : Type 0} (d : Stored V) (ms : Stored ℕ) (ls : List (Stored V)) (n : ℕ) → (surveyed d ms ls n).first ≡ None → Measured d ms ls (surveyed d ms ls n)
-unfolding surveyed
-survey_says {V} d ms ls n =
-    by (ltb 0 (length d.cells) && leb (length d.cells) 1024) (eqb (length ms.cells) (length d.cells)) (ltb 0 (length ls) && leb (length ls) 8) (all_long (length d.cells + 1) ls) refl refl refl refl
-  where
-    by : (a b c e : Bool) → (ltb 0 (length d.cells) && leb (length d.cells) 1024) ≡ a → eqb (length ms.cells) (length d.cells) ≡ b → (ltb 0 (length ls) && leb (length ls) 8) ≡ c
-        → all_long (length d.cells + 1) ls ≡ e
-        → (cond a (cond b (cond c (cond e (look_from (length d.cells) 0 n ms) (looked (Some LocalSize) ms)) (looked (Some ClientCount) ms)) (looked (Some MarksSize) ms)) (looked (Some DiskSize) ms)).first ≡ None
-        → Measured d ms ls (cond a (cond b (cond c (cond e (look_from (length d.cells) 0 n ms) (looked (Some LocalSize) ms)) (looked (Some ClientCount) ms)) (looked (Some MarksSize) ms)) (looked (Some DiskSize) ms))
-    by false b c e p q r s f = never DiskSize f
-    by true false c e p q r s f = never MarksSize f
-    by true true false e p q r s f = never ClientCount f
-    by true true true false p q r s f = never LocalSize f
-    by true true true true p q r s f =
-        record { few_cells = leb-true _ _ (and_parts _ _ p).1; as_many = eqb-true _ _ q; few_clients = leb-true _ _ (and_parts _ _ r).1; one_more = s; marks_same = (look_says (length d.cells) 0 n ms).1 }
+survey_says d ms ls n =
+    survey_finds (λ o. o.first ≡ None → Measured d ms ls o) d ms ls n (λ u e. cc) λ p q r z _.
+    record { few_cells = leb-true _ _ (and_parts _ _ p).1; as_many = eqb-true _ _ q; few_clients = leb-true _ _ (and_parts _ _ r).1; one_more = z; marks_same = (look_says (length d.cells) 0 n ms).1 }
 
 all_long_says : {V : Type 0} (m : ℕ) (ls : List (Stored V)) → all_long m ls ≡ true → map cells_count ls ≡ replicate (length ls) m
 all_long_says m [] e = refl
@@ -61,21 +45,17 @@ new_records_count = map_replicate records_count 8 new_client ∙ ap (replicate 8
 
 module _ {V : Type 0} where
   new_proper : (x : Start V) (m k : ℕ) → ProperAt m k (asked (λ c. c) (made x).table.clients k)
-  unfolding new_clients new_client
-  new_proper x m k = replicated new_client 8 k (ProperAt m k) tt (tt, tt)
+  unfolding new_client
+  new_proper x m k = new_client_is k (ProperAt m k) tt (tt, tt)
 
-  new_size : (x : Start V) → Fit x → (made x).table.size ≡ length x.disk.cells
-  new_size x e = ap (λ (u : Option Unfit). within u (length x.disk.cells)) e
-
-  new_count : (x : Start V) → Fit x → (made x).table.count ≡ length x.locals
-  new_count x e = ap (λ (u : Option Unfit). within u (length x.locals)) e
-
-  new_sound : (x : Start V) → Fit x → Sound (made x)
+  new_sound : (x : Start V) → Fit x → Sound (length x.disk.cells) (length x.locals) (made x)
   new_sound x e =
       let h = survey_says x.disk x.marks x.locals x.session e in
-      let size = new_size x e in
-      let count = new_count x e in
+      let size : (made x).table.size ≡ length x.disk.cells = ap (λ (u : Option Unfit). within u (length x.disk.cells)) e in
+      let count : (made x).table.count ≡ length x.locals = ap (λ (u : Option Unfit). within u (length x.locals)) e in
       record {
+        size = size;
+        count = count;
         fit = e;
         cells = rw size h.few_cells;
         clients = rw count h.few_clients;
@@ -86,7 +66,7 @@ module _ {V : Type 0} where
         proper = new_proper x (made x).table.size;
       }
 
-  shaped : (s : State V) → Sound s → Shaped s
+  shaped : {wide many : ℕ} (s : State V) → Sound wide many s → Shaped s
   shaped s h =
       record {
         fit = h.fit;
@@ -100,13 +80,12 @@ module _ {V : Type 0} where
         notes = λ k n. note_own s k n h;
       }
 
-  stays_sound : (blank : V) (s : State V) (qs : List (Call V)) → Sound s → Sound (calls_after (called blank) s qs)
+  stays_sound : {wide many : ℕ} (blank : V) (s : State V) (qs : List (Call V)) → Sound wide many s → Sound wide many (calls_after (called blank) s qs)
   stays_sound blank s [] h = h
   stays_sound blank s (q ∷ qs) h = stays_sound blank (called blank s q).state qs (all_end blank s q h).0
 
 pub keeps_shape : (V : Type 0) → KeepsShape V called
 keeps_shape V blank x fit acts =
     let e = (acts_do blank (made x) acts).0 in
-    let h : Sound (after (called blank) (made x) acts) = subst Sound (sym e) (stays_sound blank (made x) (calls acts) (new_sound x fit)) in
-    let n : AsMany (made x) (after (called blank) (made x) acts) = subst (AsMany (made x)) (sym e) (calls_kept blank (made x) (calls acts)) in
-    (n.0 ∙ new_size x fit, n.1 ∙ new_count x fit, shaped _ h, λ q. (all_end blank (after (called blank) (made x) acts) q h).1)
+    let h = subst (Sound (length x.disk.cells) (length x.locals)) (sym e) (stays_sound blank (made x) (calls acts) (new_sound x fit)) in
+    (h.size, h.count, shaped _ h, λ q. (all_end blank (after (called blank) (made x) acts) q h).1)

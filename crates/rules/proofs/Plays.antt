@@ -1,23 +1,12 @@
 -- A list of acts is a list of calls: a run does its steps' calls in order, and its rows show their replies.
-use Rattle.std.proofs.Common.{◌≡◌, ℕ, suc, eqb, List, [], ◌∷◌, ◌++◌, length, get_or, set, Some, None, Ok, Err, Option, Result, unwrap_or, sym, refl, ap, ◌∙◌, add-one, arith}
-use Rattle.std.proofs.lemmas.Bool.{eqb-true, and_parts}
-use Rattle.records.specs.Cells.{settled, fresh}
-use Rattle.records.specs.Records.{is_in_journal}
-use Rattle.records.specs.Questions.{admitted}
-use Rattle.store.specs.Stores.{stored}
-use Rattle.rules.specs.Site.{State, Outcome, with_marks, with_disk}
-use Rattle.rules.specs.Calls.{read_call, read_local, read_confirmed, read_fetched}
-use Rattle.rules.specs.declared.answer.Source.{Source}
-use Rattle.rules.specs.declared.answer.Stopped.{Stopped}
-use Rattle.rules.specs.Replies.{Call, Reply, Out, open_reply, read_reply, noted_reply, plain_reply, swept_reply, called}
+use Rattle.std.proofs.Common.{◌≡◌, ℕ, suc, List, [], ◌∷◌, ◌++◌, length, set, Option, unwrap_or, sym, refl, ap, ◌∙◌, add-one, arith}
+use Rattle.std.proofs.lemmas.Bool.{cond_both, eqb-true, and_parts}
+use Rattle.rules.specs.Site.{State}
+use Rattle.rules.specs.Replies.{Call, Out, called}
 use Rattle.rules.specs.Runs.{Rows, call_of, calls_of, equally_long, Running, running, put_got, filled, run_from, run_calls, ran}
 use Rattle.rules.specs.History.{Entry, Act, single, run, logged, shown, row_log, acted, act_log, after, log}
 use Rattle.rules.specs.declared.step.Step.{Step}
 use Rattle.rules.specs.declared.answer.Answer.{Answer}
-use Rattle.records.specs.declared.records.Flush.{Flush}
-use Rattle.records.specs.declared.fault.SiteFault.{SiteFault}
-use Rattle.rules.proofs.Ways.{followed, chosen, by_disk_read, by_mark_read}
-use Rattle.rules.proofs.Sight.{by_local_read, by_local_write}
 
 -- the calls of a list of acts
 abbrev pub calls_in : {V : Type 0} → Act V → List (Call V)
@@ -60,12 +49,10 @@ module _ {V : Type 0} (perform : State V → Call V → Out V) where
   ahead a g w = running w.state (a ∷ w.answers) (g ∷ w.got)
 
   put_ahead : (gs : List V) (g : V) (i : ℕ) (o : Option V) → put_got (g ∷ gs) (suc i) o ≡ g ∷ put_got gs i o
-  put_ahead gs g i None = refl
-  put_ahead gs g i (Some v) = refl
+  put_ahead gs g i o = grind arith
 
   put_here : (gs : List V) (g : V) (o : Option V) → put_got (g ∷ gs) 0 o ≡ unwrap_or o g ∷ gs
-  put_here gs g None = refl
-  put_here gs g (Some v) = refl
+  put_here gs g o = grind arith
 
   shifted : (qs : List (Call V)) (i : ℕ) (a : Answer) (g : V) (w : Running V) → run_from perform qs (suc i) (ahead a g w) ≡ ahead a g (run_from perform qs i w)
   unfolding run_from
@@ -97,57 +84,10 @@ calls_long (p ∷ ps) [] e = absurd (omega arith)
 calls_long (p ∷ ps) (v ∷ vs) e = ap suc (calls_long ps vs (omega arith))
 
 module _ {V : Type 0} (blank : V) where
-  -- a reply that a row can show whole
-  abbrev Shows : Reply V → Type 0
-  Shows r = (g : V) → shown r.answer (unwrap_or r.got g) ≡ r
-
-  plain_shows : (i : ℕ) (r : Result (Unit {0}) SiteFault) → Shows (plain_reply i r)
-  plain_shows i (Ok x) g = refl
-  plain_shows i (Err e) g = refl
-
-  open_shows : (r : Result ℕ SiteFault) → Shows (open_reply r)
-  open_shows (Ok x) g = refl
-  open_shows (Err e) g = refl
-
-  noted_shows : (i : ℕ) (r : Result Flush SiteFault) → Shows (noted_reply i r)
-  noted_shows i (Ok x) g = refl
-  noted_shows i (Err e) g = refl
-
-  swept_shows : (r : Result ℕ Stopped) → Shows (swept_reply r)
-  swept_shows (Ok n) g = refl
-  swept_shows (Err x) g = refl
-
-  -- an accepted read has a source
-  read_shows : (s : State V) (k i : ℕ) → Shows (read_reply i (read_call s k i).answer)
-  unfolding read_local read_confirmed read_fetched
-  read_shows s k i g =
-      let P : Outcome V (V × Source) → Type 0 = λ o. shown (read_reply i o.answer).answer (unwrap_or (read_reply i o.answer).got g) ≡ read_reply i o.answer in
-      followed P s (admitted s.table k i) _ (λ e. refl) λ r _.
-      chosen P (settled r (is_in_journal s.table k i)) _ _
-      (λ _. by_local_read P s k i blank _ (λ e. refl) (λ l ls rel. refl))
-      (λ _.
-      by_mark_read P s i _ (λ e. refl) λ lm.
-      let s₁ : State V = with_marks s (stored s.marks.cells lm) in
-      chosen P (fresh r.kept (get_or s.marks.cells i 0)) _ _
-      (λ _. by_local_read P s₁ k i blank _ (λ e. refl) (λ l ls rel. refl))
-      (λ _.
-      by_disk_read P s₁ i blank _ (λ e. refl) λ ld.
-      by_local_write P (with_disk s₁ (stored s.disk.cells ld)) k i (get_or s.disk.cells i blank) _ (λ e. refl) (λ z l ls rel. refl)))
-
-  step_shows : (s : State V) (p : Step) (v : V) → Shows (called blank s (call_of p v)).reply
+  -- a row shows a step's reply whole
+  step_shows : (s : State V) (p : Step) (v g : V) → shown (called blank s (call_of p v)).reply.answer (unwrap_or (called blank s (call_of p v)).reply.got g) ≡ (called blank s (call_of p v)).reply
   unfolding called
-  step_shows s p v =
-      let P : Call V → Type 0 = λ q. Shows (called blank s q).reply in
-      chosen P (eqb p.call 1) _ _ (λ _. open_shows _) λ _.
-      chosen P (eqb p.call 2) _ _ (λ _. read_shows s p.client p.cell) λ _.
-      chosen P (eqb p.call 3) _ _ (λ _. plain_shows _ _) λ _.
-      chosen P (eqb p.call 4) _ _ (λ _. noted_shows _ _) λ _.
-      chosen P (eqb p.call 5) _ _ (λ _. plain_shows _ _) λ _.
-      chosen P (eqb p.call 6) _ _ (λ _. plain_shows _ _) λ _.
-      chosen P (eqb p.call 7) _ _ (λ _. plain_shows _ _) λ _.
-      chosen P (eqb p.call 8) _ _ (λ _. swept_shows _) λ _.
-      chosen P (eqb p.call 9) _ _ (λ _. plain_shows _ _) λ _.
-      chosen P (eqb p.call 10) _ _ (λ _. plain_shows _ _) λ _ g. refl
+  step_shows s p v g = grind arith
 
   -- the rows that a run leaves are the log of its calls
   rows_show : (s : State V) (ps : List Step) (vs gs : List V) → length gs ≡ length (calls_of ps vs)
@@ -168,7 +108,7 @@ module _ {V : Type 0} (blank : V) where
   pub run_does : (s : State V) (r : Rows V) → RunDoes s r (run_calls r)
   unfolding run_from
   run_does s r =
-      chosen (RunDoes s r) (equally_long r) _ _
+      cond_both (equally_long r) _ _ (RunDoes s r)
       (λ y.
       let a = and_parts _ _ y in
       let a' = and_parts _ _ a.1 in

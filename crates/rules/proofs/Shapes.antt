@@ -1,26 +1,28 @@
 -- A fit site's parts go on fitting together, so that 8 and 12 are answered only by their own questions.
-use Rattle.std.proofs.Common.{◌≡◌, ℕ, zero, suc, ◌+◌, ◌<◌, ◌≤◌, Bool, true, false, ltb, ◌↔◌, List, [], ◌∷◌, map, length, set, replicate, Some, None, Ok, Err, Option, Result, sym, refl, ap, ◌∙◌, subst, arith}
+use Rattle.std.proofs.Common.{◌≡◌, ℕ, zero, suc, ◌+◌, ◌<◌, ◌≤◌, true, false, ◌↔◌, List, [], ◌∷◌, map, length, get_or, replicate, Some, None, Ok, Err, Option, Result, sym, refl, ap, ◌∙◌, subst, arith}
 use Rattle.std.specs.List.{slice_get}
+use Rattle.std.specs.Option.{option_flatten, option_map}
 use Rattle.std.proofs.lemmas.List.{length-set}
+use Rattle.std.proofs.lemmas.Option.{slice_get-get_or}
 use Rattle.std.proofs.lemmas.Bool.{ltb-true, ltb-false, leb-true, and_parts}
-use Rattle.store.specs.Stores.{Stored, after, read_answer, write_answer, after_read, after_write}
+use Rattle.store.specs.Stores.{Stored, read_answer, write_answer, after_read, after_write}
 use Rattle.store.specs.declared.life.Fault.{Fault}
+use Rattle.records.specs.Cells.{new_cell}
 use Rattle.records.specs.Clients.{asked, changed}
 use Rattle.records.specs.Faults.{says}
-use Rattle.records.specs.Records.{Records, names, is_none, joined, cell_of, journal_of, note_of}
-use Rattle.records.specs.Questions.{and_then, unless, asks, there, present, holding, found, admitted}
+use Rattle.records.specs.Records.{Records, names, cell_of, journal_of, note_of}
+use Rattle.records.specs.Questions.{and_then, there, present, holding, admitted}
 use Rattle.rules.specs.Site.{State, Outcome, next, ◌then◌, with_table, with_disk, with_marks, with_locals, told, told_local, disk_read, disk_write, mark_read, mark_write, local_read, local_write}
 use Rattle.records.specs.declared.records.CellRecord.{CellRecord}
 use Rattle.records.specs.declared.records.ClientRecord.{ClientRecord}
 use Rattle.records.specs.declared.records.Flush.{Flush}
-use Rattle.records.specs.declared.fault.Unfit.{Unfit}
 use Rattle.records.specs.declared.fault.SiteFault.{SiteFault}
-use Rattle.records.specs.declared.fault.SiteFault.TheVariants as fault
 use Rattle.records.specs.declared.fault.StoreName.{StoreName}
 use Rattle.records.specs.declared.fault.StoreName.TheVariants.{Local, Marks, Disk}
 use Rattle.records.specs.declared.fault.Operation.{Operation}
 use Rattle.records.specs.declared.fault.Operation.TheVariants.{Read, Write}
-use Rattle.rules.proofs.Sight.{mapped, asked_mapped, changed_at, changed_else}
+use Rattle.records.proofs.Tables.{asked_as}
+use Rattle.rules.proofs.Sight.{changed_at, changed_else}
 use Rattle.rules.proofs.Ways.{equal_or_not}
 
 -- lists told by client number, by what their entries measure
@@ -33,31 +35,22 @@ changed_measure g f h (x ∷ xs) (suc (suc k)) = ap (λ ys. g x ∷ ys) (changed
 -- an entry that is there, with its measure
 pub entry_there : {X Y : Type 0} (g : X → Y) (xs : List X) (n : ℕ) (y : Y) (k : ℕ) → map g xs ≡ replicate n y → 0 < k → k ≤ n → (x : X) × (asked (λ z. z) xs k ≡ Some x) × (g x ≡ y)
 entry_there g [] zero y k e a b = absurd (omega arith)
-entry_there g [] (suc n) y k e a b = let z : ◌≡◌ {A = ℕ} 0 1 = cc in absurd (omega arith)
+entry_there g [] (suc n) y k e a b = cc
 entry_there g (x ∷ xs) zero y k e a b = absurd (omega arith)
 entry_there g (x ∷ xs) (suc n) y zero e a b = absurd (omega arith)
 entry_there g (x ∷ xs) (suc n) y (suc zero) e a b = (x, refl, cc)
 entry_there g (x ∷ xs) (suc n) y (suc (suc k)) e a b = entry_there g xs n y (suc k) (cc) (omega arith) (omega arith)
 
-nth_there : {X : Type 0} (xs : List X) (i : ℕ) → i < length xs → (x : X) × (slice_get xs i ≡ Some x)
-nth_there [] i h = absurd (omega arith)
-nth_there (x ∷ xs) zero h = (x, refl)
-nth_there (x ∷ xs) (suc i) h = nth_there xs i (omega arith)
-
--- what a store's operations leave has as many cells
-pub kept_long : {X V : Type 0} (r : Result X Fault) (b : Stored V) (xs : List V) → length xs ≡ length b.cells → length (after r b xs).cells ≡ length b.cells
-kept_long (Ok x) b xs e = e
-kept_long (Err x) b xs e = refl
-
 module _ {V : Type 0} where
   abbrev pub cells_count : Stored V → ℕ
   cells_count b = length b.cells
 
+  -- what a store's operations leave has as many cells
   pub read_long : (b : Stored V) (i : ℕ) → cells_count (after_read b i) ≡ cells_count b
-  read_long b i = kept_long (read_answer b i) b b.cells refl
+  read_long b i = grind arith
 
   pub write_long : (b : Stored V) (i : ℕ) (v : V) → cells_count (after_write b i v) ≡ cells_count b
-  write_long b i v = kept_long (write_answer b i) b (set b.cells i v) (length-set b.cells i v)
+  write_long b i v = grind (arith, length-set)
 
 abbrev pub records_count : ClientRecord → ℕ
 records_count c = length c.cells
@@ -78,7 +71,10 @@ abbrev pub ProperAt : ℕ → ℕ → Option ClientRecord → Type 0
 ProperAt m k None = Unit {0}
 ProperAt m k (Some c) = Proper m k c
 
-pub record Sound {V : Type 0} (s : State V) : Type 0 where
+-- a fit site of `wide` cells and `many` clients
+pub record Sound {V : Type 0} (wide many : ℕ) (s : State V) : Type 0 where
+  pub size : s.table.size ≡ wide
+  pub count : s.table.count ≡ many
   pub fit : s.table.unfit ≡ None
   pub cells : s.table.size ≤ 1024
   pub clients : s.table.count ≤ 8
@@ -98,18 +94,20 @@ pub record Clear (n : ℕ) : Type 0 where
   pub eight : n ≡ 8 → ⊥
   pub twelve : n ≡ 12 → ⊥
 
-module _ {V : Type 0} where
-  pub with_disk_sound : (s : State V) (d : Stored V) → Sound s → length d.cells ≡ length s.disk.cells → Sound (with_disk s d)
+module _ {V : Type 0} {wide many : ℕ} where
+  pub with_disk_sound : (s : State V) (d : Stored V) → Sound wide many s → length d.cells ≡ length s.disk.cells → Sound wide many (with_disk s d)
   with_disk_sound s d h e =
-      record { fit = h.fit; cells = h.cells; clients = h.clients; disk = e ∙ h.disk; marks = h.marks; locals = h.locals; records = h.records; proper = h.proper }
+      record { size = h.size; count = h.count; fit = h.fit; cells = h.cells; clients = h.clients; disk = e ∙ h.disk; marks = h.marks; locals = h.locals; records = h.records; proper = h.proper }
 
-  pub with_marks_sound : (s : State V) (d : Stored ℕ) → Sound s → length d.cells ≡ length s.marks.cells → Sound (with_marks s d)
+  pub with_marks_sound : (s : State V) (d : Stored ℕ) → Sound wide many s → length d.cells ≡ length s.marks.cells → Sound wide many (with_marks s d)
   with_marks_sound s d h e =
-      record { fit = h.fit; cells = h.cells; clients = h.clients; disk = h.disk; marks = e ∙ h.marks; locals = h.locals; records = h.records; proper = h.proper }
+      record { size = h.size; count = h.count; fit = h.fit; cells = h.cells; clients = h.clients; disk = h.disk; marks = e ∙ h.marks; locals = h.locals; records = h.records; proper = h.proper }
 
-  pub with_locals_sound : (s : State V) (f : Stored V → Stored V) (k : ℕ) → Sound s → ((b : Stored V) → cells_count (f b) ≡ cells_count b) → Sound (with_locals s (changed f s.locals k))
+  pub with_locals_sound : (s : State V) (f : Stored V → Stored V) (k : ℕ) → Sound wide many s → ((b : Stored V) → cells_count (f b) ≡ cells_count b) → Sound wide many (with_locals s (changed f s.locals k))
   with_locals_sound s f k h e =
       record {
+        size = h.size;
+        count = h.count;
         fit = h.fit;
         cells = h.cells;
         clients = h.clients;
@@ -121,13 +119,15 @@ module _ {V : Type 0} where
       }
 
   -- a client's record changes, and stays proper
-  pub with_client_sound : (s : State V) (n : ℕ) (o : Option ℕ) (f : ClientRecord → ClientRecord) (k : ℕ) → Sound s → ((c : ClientRecord) → records_count (f c) ≡ records_count c)
+  pub with_client_sound : (s : State V) (n : ℕ) (o : Option ℕ) (f : ClientRecord → ClientRecord) (k : ℕ) → Sound wide many s → ((c : ClientRecord) → records_count (f c) ≡ records_count c)
       → ((c : ClientRecord) → Proper s.table.size k c → Proper s.table.size k (f c))
-      → Sound (with_table s (record { unfit = s.table.unfit; size = s.table.size; count = s.table.count; session = n; holder = o; clients = changed f s.table.clients k }))
+      → Sound wide many (with_table s (record { unfit = s.table.unfit; size = s.table.size; count = s.table.count; session = n; holder = o; clients = changed f s.table.clients k }))
   with_client_sound s n o f k h e w =
       let cs : List ClientRecord = s.table.clients in
       let m : ℕ = s.table.size in
       record {
+        size = h.size;
+        count = h.count;
         fit = h.fit;
         cells = h.cells;
         clients = h.clients;
@@ -143,77 +143,71 @@ module _ {V : Type 0} where
             (λ q. subst (ProperAt m j) (sym (changed_else f cs k j q)) (h.proper j));
       }
     where
-      moved : (x : Option ClientRecord) → ProperAt s.table.size k x → ProperAt s.table.size k (mapped f x)
+      moved : (x : Option ClientRecord) → ProperAt s.table.size k x → ProperAt s.table.size k (option_map f x)
       moved None q = tt
       moved (Some c) q = w c q
 
-module _ {V : Type 0} (s : State V) (k : ℕ) where
-  -- what a proper record says of the note and the journal
-  pub note_own : (n : Flush) → Sound s → note_of s.table k ≡ Some n → n.client ≡ k
-  unfolding note_of
-  note_own n h e = by (asked (λ c. c) s.table.clients k) (h.proper k) (sym (ap joined (asked_mapped (λ c. c.note) s.table.clients k)) ∙ e)
+module _ {V : Type 0} {wide many : ℕ} (s : State V) (k : ℕ) where
+  -- what a proper record says of its field f, if the field is there
+  proper_says : {X : Type 0} (f : ClientRecord → Option X) (P : X → Type 0) → Sound wide many s → ((c : ClientRecord) → Proper s.table.size k c → (x : X) → f c ≡ Some x → P x)
+      → (x : X) → option_flatten (asked f s.table.clients k) ≡ Some x → P x
+  proper_says {X} f P h g x e = by (asked (λ c. c) s.table.clients k) (h.proper k) (sym (ap option_flatten (asked_as f s.table.clients k)) ∙ e)
     where
-      by : (o : Option ClientRecord) → ProperAt s.table.size k o → joined (mapped (λ (c : ClientRecord). c.note) o) ≡ Some n → n.client ≡ k
-      by None w q = let z : ◌≡◌ {A = ℕ} 0 1 = cc in absurd (omega arith)
-      by (Some c) w q = subst (Own k) q w.0
+      by : (o : Option ClientRecord) → ProperAt s.table.size k o → option_flatten (option_map f o) ≡ Some x → P x
+      by None w q = cc
+      by (Some c) w q = g c w x q
 
-  pub journal_inside : (i : ℕ) → Sound s → journal_of s.table k ≡ Some i → i < s.table.size
+  -- the note and the journal
+  pub note_own : (n : Flush) → Sound wide many s → note_of s.table k ≡ Some n → n.client ≡ k
+  unfolding note_of
+  note_own n h e = proper_says (λ c. c.note) (λ n. n.client ≡ k) h (λ c w n q. subst (Own k) q w.0) n e
+
+  pub journal_inside : (i : ℕ) → Sound wide many s → journal_of s.table k ≡ Some i → i < s.table.size
   unfolding journal_of
-  journal_inside i h e = by (asked (λ c. c) s.table.clients k) (h.proper k) (sym (ap joined (asked_mapped (λ c. c.journal) s.table.clients k)) ∙ e)
-    where
-      by : (o : Option ClientRecord) → ProperAt s.table.size k o → joined (mapped (λ (c : ClientRecord). c.journal) o) ≡ Some i → i < s.table.size
-      by None w q = let z : ◌≡◌ {A = ℕ} 0 1 = cc in absurd (omega arith)
-      by (Some c) w q = subst (Inside s.table.size) q w.1
+  journal_inside i h e = proper_says (λ c. c.journal) (λ i. i < s.table.size) h (λ c w i q. subst (Inside s.table.size) q w.1) i e
 
 pub zero_clear : Clear 0
-zero_clear = record { eight = λ e. omega arith; twelve = λ e. omega arith }
+zero_clear = grind arith
 
 -- a store's refusal is 18, 19 or 20
 told_clear : {X : Type 0} (w : StoreName) (i : ℕ) (o : Operation) (r : Result X Fault) → Clear (num (told w i o r))
-told_clear w i o (Ok x) = zero_clear
-told_clear Local i o (Err e) = record { eight = λ z. omega arith; twelve = λ z. omega arith }
-told_clear Marks i o (Err e) = record { eight = λ z. omega arith; twelve = λ z. omega arith }
-told_clear Disk i o (Err e) = record { eight = λ z. omega arith; twelve = λ z. omega arith }
+told_clear w i o r = grind arith
 
 pub there_says : (t : Records) (k : ℕ) → there t k ≡ true → (0 < k) × (k ≤ t.count)
 there_says t k h = let a = and_parts _ _ h in (ltb-true _ _ a.0, leb-true _ _ a.1)
 
-module _ {V : Type 0} where
+-- once the questions are a yes: the site is sound, and no refusal is 8 or 12
+abbrev pub Safe : {V X : Type 0} → ℕ → ℕ → Outcome V X → Type 0
+Safe wide many o = Sound wide many o.state × Clear (num o.answer)
+
+module _ {V : Type 0} {wide many : ℕ} where
   -- every client that is there has a local store
-  local_clear : {X : Type 0} (s : State V) (k i : ℕ) (o : Operation) (f : Stored V → Result X Fault) → Sound s → there s.table k ≡ true
+  local_clear : {X : Type 0} (s : State V) (k i : ℕ) (o : Operation) (f : Stored V → Result X Fault) → Sound wide many s → there s.table k ≡ true
       → Clear (num (told_local i o (asked f s.locals k)))
   local_clear {X} s k i o f h th =
       let z = there_says s.table k th in
       let b = entry_there cells_count s.locals s.table.count (s.table.size + 1) k h.locals z.0 z.1 in
-      subst (λ (r : Option (Result X Fault)). Clear (num (told_local i o r))) (sym (asked_mapped f s.locals k ∙ ap (mapped f) b.1)) (told_clear Local i o (f b.0))
+      subst (λ (r : Option (Result X Fault)). Clear (num (told_local i o r))) (sym (asked_as f s.locals k ∙ ap (option_map f) b.1)) (told_clear Local i o (f b.0))
 
-  -- once the questions are a yes: the site is sound, and no refusal is 8 or 12
-  abbrev pub Safe : {X : Type 0} → Outcome V X → Type 0
-  Safe o = Sound o.state × Clear (num o.answer)
+  pub safe_then : {X Y : Type 0} (o : Outcome V X) (f : State V → X → Outcome V Y) → Safe wide many o → ((x : X) → Sound wide many o.state → Safe wide many (f o.state x)) → Safe wide many (o then f)
+  safe_then o f h go = grind arith
 
-  pub safe_then : {X Y : Type 0} (o : Outcome V X) (f : State V → X → Outcome V Y) → Safe o → ((x : X) → Sound o.state → Safe (f o.state x)) → Safe (o then f)
-  safe_then {X} {Y} o f h go = by o.answer h.1
-    where
-      by : (r : Result X SiteFault) → Clear (num r) → Safe (next o.state r f)
-      by (Ok x) c = go x h.0
-      by (Err e) c = (h.0, c)
-
-  pub disk_read_safe : (s : State V) (i : ℕ) → Sound s → Safe (disk_read s i)
+  pub disk_read_safe : (s : State V) (i : ℕ) → Sound wide many s → Safe wide many (disk_read s i)
   disk_read_safe s i h = (with_disk_sound s _ h (read_long s.disk i), told_clear Disk i Read (read_answer s.disk i))
 
-  pub disk_write_safe : (s : State V) (i : ℕ) (v : V) → Sound s → Safe (disk_write s i v)
+  pub disk_write_safe : (s : State V) (i : ℕ) (v : V) → Sound wide many s → Safe wide many (disk_write s i v)
   disk_write_safe s i v h = (with_disk_sound s _ h (write_long s.disk i v), told_clear Disk i Write (write_answer s.disk i))
 
-  pub mark_read_safe : (s : State V) (i : ℕ) → Sound s → Safe (mark_read s i)
+  pub mark_read_safe : (s : State V) (i : ℕ) → Sound wide many s → Safe wide many (mark_read s i)
   mark_read_safe s i h = (with_marks_sound s _ h (read_long s.marks i), told_clear Marks i Read (read_answer s.marks i))
 
-  pub mark_write_safe : (s : State V) (i n : ℕ) → Sound s → Safe (mark_write s i n)
+  pub mark_write_safe : (s : State V) (i n : ℕ) → Sound wide many s → Safe wide many (mark_write s i n)
   mark_write_safe s i n h = (with_marks_sound s _ h (write_long s.marks i n), told_clear Marks i Write (write_answer s.marks i))
 
-  pub local_read_safe : (s : State V) (k i : ℕ) → Sound s → there s.table k ≡ true → Safe (local_read s k i)
+  pub local_read_safe : (s : State V) (k i : ℕ) → Sound wide many s → there s.table k ≡ true → Safe wide many (local_read s k i)
   local_read_safe s k i h th = (with_locals_sound s _ k h (λ b. read_long b i), local_clear s k i Read (λ b. read_answer b i) h th)
 
-  pub local_write_safe : (s : State V) (k i : ℕ) (v : V) → Sound s → there s.table k ≡ true → Safe (local_write s k i v)
+  pub local_write_safe : (s : State V) (k i : ℕ) (v : V) → Sound wide many s → there s.table k ≡ true → Safe wide many (local_write s k i v)
   local_write_safe s k i v h th = (with_locals_sound s _ k h (λ b. write_long b i v), local_clear s k i Write (λ b. write_answer b i) h th)
 
 -- 8 is the answer exactly where the client is not there
@@ -229,45 +223,22 @@ TwelveIs t k (Some i) n = (n ≡ 12 → t.size ≤ i) × (there t k ≡ true →
 abbrev pub Exact : Records → ℕ → Option ℕ → ℕ → Type 0
 Exact t k c n = EightIs t k n × TwelveIs t k c n
 
-pub true_false : {P : Type 0} → ◌≡◌ {A = Bool} true false → P
-true_false e = let z : ◌≡◌ {A = ℕ} 0 1 = cc in absurd (omega arith)
-
 -- a number that is neither, where the client is there and the cell is below the number of cells
 pub clear_exact : (t : Records) (k : ℕ) (c : Option ℕ) (n : ℕ) → Clear n → there t k ≡ true → ((i : ℕ) → c ≡ Some i → names t.holder k ≡ true → t.size ≤ i → ⊥) → Exact t k c n
-clear_exact t k None n h th w = (((λ e. absurd (h.eight e)), λ e. true_false (sym th ∙ e)), h.twelve)
-clear_exact t k (Some i) n h th w = (((λ e. absurd (h.eight e)), λ e. true_false (sym th ∙ e)), ((λ e. absurd (h.twelve e)), λ _ x y. absurd (w i refl x y)))
+clear_exact t k c n h th w = grind arith
 
 -- questions 7 and 8, and then g
 pub question : {Y : Type 0} (t : Records) (k : ℕ) (c : Option ℕ) (g : Result Y SiteFault) → t.unfit ≡ None → (there t k ≡ true → Exact t k c (num g)) → Exact t k c (num (and_then (present t k) (λ _. g)))
-question {Y} t k c g u h =
-    subst (λ (o : Option Unfit). Exact t k c (num (and_then (unless (is_none o) fault.Unfit (asks (there t k) fault.NoClient)) (λ _. g)))) (sym u) (by (there t k) refl)
-  where
-    by : (b : Bool) → there t k ≡ b → Exact t k c (num (and_then (asks b fault.NoClient) (λ _. g)))
-    by true e = h e
-    by false e = ((λ _. e, λ _. refl), absent c)
-      where
-        absent : (x : Option ℕ) → TwelveIs t k x 8
-        absent None = λ z. omega arith
-        absent (Some i) = ((λ z. absurd (omega arith)), λ z. true_false (sym z ∙ e))
+question t k c g u h = grind arith
 
 -- questions 7, 8 and 11, and then g
 pub held : {Y : Type 0} (t : Records) (k : ℕ) (c : Option ℕ) (g : Result Y SiteFault) → t.unfit ≡ None → (there t k ≡ true → names t.holder k ≡ true → Exact t k c (num g))
     → Exact t k c (num (and_then (holding t k) (λ _. g)))
-held {Y} t k c g u h =
-    subst (λ (r : Result Y SiteFault). Exact t k c (num r)) (sym (regroup (present t k) (λ _. asks (names t.holder k) fault.NotHolding) (λ _. g)))
-    (question t k c (and_then (asks (names t.holder k) fault.NotHolding) (λ _. g)) u (λ th. by (names t.holder k) refl th))
-  where
-    regroup : {A B C : Type 0} (r : Result A SiteFault) (f : A → Result B SiteFault) (f' : B → Result C SiteFault) → and_then (and_then r f) f' ≡ and_then r (λ x. and_then (f x) f')
-    regroup (Ok x) f f' = refl
-    regroup (Err e) f f' = refl
+held t k c g u h = grind arith
 
-    by : (b : Bool) → names t.holder k ≡ b → there t k ≡ true → Exact t k c (num (and_then (asks b fault.NotHolding) (λ _. g)))
-    by true e th = h th e
-    by false e th = clear_exact t k c 11 (record { eight = λ z. omega arith; twelve = λ z. omega arith }) th (λ i _ x _. true_false (sym x ∙ e))
-
-module _ {V : Type 0} where
+module _ {V : Type 0} {wide many : ℕ} where
   -- every cell of a client that is there has a record
-  record_there : (s : State V) (k i : ℕ) → Sound s → there s.table k ≡ true → i < s.table.size → (r : CellRecord) × (cell_of s.table k i ≡ Some r)
+  record_there : (s : State V) (k i : ℕ) → Sound wide many s → there s.table k ≡ true → i < s.table.size → (r : CellRecord) × (cell_of s.table k i ≡ Some r)
   unfolding cell_of
   record_there s k i h th l =
       let z = there_says s.table k th in
@@ -275,42 +246,14 @@ module _ {V : Type 0} where
       let m = h.cells in
       let c = entry_there records_count s.table.clients 8 1024 k h.records z.0 (omega arith) in
       let q = c.2 in
-      let r = nth_there c.0.cells i (omega arith) in
-      (r.0, ap joined (asked_mapped (λ x. slice_get x.cells i) s.table.clients k ∙ ap (mapped (λ (x : ClientRecord). slice_get x.cells i)) c.1) ∙ r.1)
-
-  abbrev cell_asks : State V → ℕ → ℕ → Bool → Result CellRecord SiteFault
-  cell_asks s k i b = unless b fault.NoCell (found (cell_of s.table k i))
+      (get_or c.0.cells i new_cell, ap option_flatten (asked_as (λ x. slice_get x.cells i) s.table.clients k ∙ ap (option_map (λ (x : ClientRecord). slice_get x.cells i)) c.1) ∙ slice_get-get_or c.0.cells i new_cell (omega arith))
 
   -- questions 7, 8, 11 and 12, and then g of the cell's record
-  pub celled : {Y : Type 0} (s : State V) (k i : ℕ) (g : CellRecord → Result Y SiteFault) → Sound s → ((r : CellRecord) → Clear (num (g r)))
+  pub celled : {Y : Type 0} (s : State V) (k i : ℕ) (g : CellRecord → Result Y SiteFault) → Sound wide many s → ((r : CellRecord) → Clear (num (g r)))
       → Exact s.table k (Some i) (num (and_then (admitted s.table k i) g))
-  celled {Y} s k i g h cl =
-      subst (λ (r : Result Y SiteFault). Exact s.table k (Some i) (num r)) (sym (regroup (holding s.table k)))
-      (held s.table k (Some i) _ h.fit (λ th hd. by (ltb i s.table.size) refl th))
-    where
-      regroup : (r : Result (Unit {0}) SiteFault) → and_then (and_then r (λ _. cell_asks s k i (ltb i s.table.size))) g ≡ and_then r (λ _. and_then (cell_asks s k i (ltb i s.table.size)) g)
-      regroup (Ok x) = refl
-      regroup (Err e) = refl
-
-      by : (b : Bool) → ltb i s.table.size ≡ b → there s.table k ≡ true → Exact s.table k (Some i) (num (and_then (cell_asks s k i b) g))
-      by true e th =
-          let l : i < s.table.size = ltb-true _ _ e in
-          let r = record_there s k i h th l in
-          subst (λ (o : Option CellRecord). Exact s.table k (Some i) (num (and_then (found o) g))) (sym r.1)
-          (clear_exact s.table k (Some i) _ (cl r.0) th (λ j q _ y. let q' : i ≡ j = cc in omega arith))
-      by false e th =
-          (((λ z. absurd (omega arith)), λ z. true_false (sym th ∙ z)), ((λ _. ltb-false _ _ e), λ _ _ _. refl))
+  celled s k i g h cl = let u = h.fit in grind (arith, ltb-true, ltb-false, record_there s k i h)
 
   -- a call: its questions r, and what follows
-  pub whole : {X Y : Type 0} (s : State V) (k : ℕ) (c : Option ℕ) (r : Result X SiteFault) (f : State V → X → Outcome V Y) → Sound s → Exact s.table k c (num r)
-      → ((x : X) → r ≡ Ok x → there s.table k ≡ true → Safe (f s x)) → Sound (next s r f).state × Exact s.table k c (num (next s r f).answer)
-  whole s k c (Err e) f h q go = (h, q)
-  whole s k c (Ok x) f h q go = by (there s.table k) refl
-    where
-      past : (c : Option ℕ) → TwelveIs s.table k c 0 → there s.table k ≡ true → (i : ℕ) → c ≡ Some i → names s.table.holder k ≡ true → s.table.size ≤ i → ⊥
-      past None w th i e a l = let z : ◌≡◌ {A = ℕ} 0 1 = cc in omega arith
-      past (Some j) w th i e a l = let e' : j ≡ i = cc in let z = w.1 th a (omega arith) in omega arith
-
-      by : (b : Bool) → there s.table k ≡ b → Sound (f s x).state × Exact s.table k c (num (f s x).answer)
-      by true th = let w = go x refl th in (w.0, clear_exact s.table k c _ w.1 th (past c q.1 th))
-      by false th = let z = q.0.1 th in absurd (omega arith)
+  pub whole : {X Y : Type 0} (s : State V) (k : ℕ) (c : Option ℕ) (r : Result X SiteFault) (f : State V → X → Outcome V Y) → Sound wide many s → Exact s.table k c (num r)
+      → ((x : X) → r ≡ Ok x → there s.table k ≡ true → Safe wide many (f s x)) → Sound wide many (next s r f).state × Exact s.table k c (num (next s r f).answer)
+  whole s k c r f h q go = grind arith

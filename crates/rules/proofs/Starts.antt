@@ -1,6 +1,7 @@
 -- A new fit site satisfies the invariant.
-use Rattle.std.proofs.Common.{◌≡◌, ℕ, zero, suc, ◌+◌, ◌<◌, ◌≤◌, Bool, true, false, cond, ◌&&◌, eqb, ltb, leb, List, length, get_or, replicate, Some, None, Option, sym, refl, ap, ◌∙◌, arith}
-use Rattle.std.proofs.lemmas.Bool.{leb-true}
+use Rattle.std.proofs.Common.{◌≡◌, ℕ, zero, suc, ◌+◌, ◌<◌, ◌≤◌, Bool, true, false, ◌&&◌, eqb, ltb, leb, List, length, get_or, replicate, Some, None, Option, sym, refl, ap, ◌∙◌, arith}
+use Rattle.std.proofs.lemmas.Grind.{common_steps}
+use Rattle.std.proofs.lemmas.Bool.{cond_both, leb-true}
 use Rattle.store.specs.Lengths.{all_long}
 use Rattle.store.specs.Stores.{Stored, stored}
 use Rattle.records.specs.Clients.{asked}
@@ -11,7 +12,7 @@ use Rattle.rules.specs.Book.{Book, sent}
 use Rattle.records.specs.declared.records.ClientRecord.{ClientRecord}
 use Rattle.records.specs.declared.fault.Unfit.{Unfit}
 use Rattle.records.specs.declared.fault.Unfit.TheVariants.{DiskSize, MarksSize, ClientCount, LocalSize}
-use Rattle.rules.proofs.Ways.{chosen, store_read, equal_or_not}
+use Rattle.rules.proofs.Ways.{store_read, equal_or_not}
 use Rattle.rules.proofs.Sight.{view, cells_in, journal_in}
 use Rattle.rules.proofs.Invariant.{Keeps, Inv}
 
@@ -26,31 +27,29 @@ look_says zero i n ms = ((λ _ k a z. omega arith), refl)
 look_says (suc f) i n ms =
     let P : Looked → Type 0 = λ o. (o.first ≡ None → (k : ℕ) → i ≤ k → k < i + suc f → get_or ms.cells k 0 ≤ n) × (o.marks.cells ≡ ms.cells) in
     store_read (λ b r. P (look_more (look_from f (i + 1) n) n b r)) ms i 0
-    (λ e. ((λ q. let z : ◌≡◌ {A = ℕ} 0 1 = cc in absurd (omega arith)), refl))
+    (λ e. ((λ q. cc), refl))
     λ _ l.
-    chosen P (leb (get_or ms.cells i 0) n) _ _
+    cond_both (leb (get_or ms.cells i 0) n) _ _ P
     (λ y.
     let r = look_says f (i + 1) n (stored ms.cells l) in
     let x : get_or ms.cells i 0 ≤ n = leb-true _ _ y in
     ((λ e k a z. equal_or_not (get_or ms.cells k 0 ≤ n) k i (λ q. rw q x) (λ q. r.0 e k (omega arith) (omega arith))), r.1))
-    (λ _. ((λ q. let z : ◌≡◌ {A = ℕ} 0 1 = cc in absurd (omega arith)), refl))
+    (λ _. ((λ q. cc), refl))
 
 new_keeps : {V : Type 0} (n x : ℕ) (d l j : V) → Keeps false false n x d d sent l j None false false false
 new_keeps n x d l j = grind arith
 
 -- a new client's record
-pub replicated : (x : ClientRecord) (n c : ℕ) (P : Option ClientRecord → Type 0) → P None → P (Some x) → P (asked (λ y. y) (replicate n x) c)
+replicated : (x : ClientRecord) (n c : ℕ) (P : Option ClientRecord → Type 0) → P None → P (Some x) → P (asked (λ y. y) (replicate n x) c)
 replicated x zero c P a b = a
 replicated x (suc n) zero P a b = a
 replicated x (suc n) (suc zero) P a b = b
 replicated x (suc n) (suc (suc c)) P a b = replicated x n (suc c) P a b
 
 get_or_new : (n k : ℕ) → get_or (replicate n new_cell) k new_cell ≡ new_cell
-get_or_new zero k = refl
-get_or_new (suc n) zero = refl
-get_or_new (suc n) (suc k) = get_or_new n k
+get_or_new n k = grind (arith, common_steps)
 
-new_client_is : (c : ℕ) (P : Option ClientRecord → Type 0) → P None → P (Some new_client) → P (asked (λ y. y) new_clients c)
+pub new_client_is : (c : ℕ) (P : Option ClientRecord → Type 0) → P None → P (Some new_client) → P (asked (λ y. y) new_clients c)
 unfolding new_clients
 new_client_is c P a b = replicated new_client 8 c P a b
 
@@ -65,30 +64,33 @@ site_inv blank d ms ls n o h =
     record {
       serves = λ k z. record { same = λ _. refl; idle = λ _. refl; marked = h k z };
       keeps = λ k c z. let e = new_cell_is c k in rw (e.0, e.1) (new_keeps n _ _ _ _);
-      filed = λ c k e. let z = new_cell_is c k in let y : ◌≡◌ {A = Bool} false true = sym (ap (λ (j : Option ℕ). names j k) z.1) ∙ e in let q : ◌≡◌ {A = ℕ} 0 1 = cc in absurd (omega arith);
+      filed = λ c k e. let z = new_cell_is c k in let y : ◌≡◌ {A = Bool} false true = sym (ap (λ (j : Option ℕ). names j k) z.1) ∙ e in cc;
     }
 
 abbrev Starts : {V : Type 0} → V → Stored V → List (Stored V) → ℕ → Looked → Type 0
 Starts blank d ls n o = o.first ≡ None → Inv blank (length d.cells) (view (new_site d ls n o)) (image_book blank d)
-
-never_starts : {V : Type 0} (blank : V) (d : Stored V) (ms : Stored ℕ) (ls : List (Stored V)) (n : ℕ) (u : Unfit) → Starts blank d ls n (looked (Some u) ms)
-never_starts blank d ms ls n u e = let z : ◌≡◌ {A = ℕ} 0 1 = cc in absurd (omega arith)
 
 looked_starts : {V : Type 0} (blank : V) (d : Stored V) (ms : Stored ℕ) (ls : List (Stored V)) (n : ℕ) → Starts blank d ls n (look_from (length d.cells) 0 n ms)
 looked_starts blank d ms ls n e =
     let o = look_says (length d.cells) 0 n ms in
     site_inv blank d ms ls n (look_from (length d.cells) 0 n ms) (λ k h. rw o.1 (o.0 e k (omega arith) (omega arith)))
 
-pub new_inv : {V : Type 0} (blank : V) (d : Stored V) (ms : Stored ℕ) (ls : List (Stored V)) (n : ℕ) → Starts blank d ls n (surveyed d ms ls n)
+-- what a survey finds: one of four noes, or, past these, what the look at the marks finds
+pub survey_finds : {V : Type 0} (P : Looked → Type 0) (d : Stored V) (ms : Stored ℕ) (ls : List (Stored V)) (n : ℕ) → ((u : Unfit) → P (looked (Some u) ms))
+    → ((ltb 0 (length d.cells) && leb (length d.cells) 1024) ≡ true → eqb (length ms.cells) (length d.cells) ≡ true → (ltb 0 (length ls) && leb (length ls) 8) ≡ true
+    → all_long (length d.cells + 1) ls ≡ true → P (look_from (length d.cells) 0 n ms))
+    → P (surveyed d ms ls n)
 unfolding surveyed
-new_inv {V} blank d ms ls n =
-    by (ltb 0 (length d.cells) && leb (length d.cells) 1024) (eqb (length ms.cells) (length d.cells)) (ltb 0 (length ls) && leb (length ls) 8) (all_long (length d.cells + 1) ls)
-  where
-    by : (a b c e : Bool)
-        → Starts blank d ls n
-        (cond a (cond b (cond c (cond e (look_from (length d.cells) 0 n ms) (looked (Some LocalSize) ms)) (looked (Some ClientCount) ms)) (looked (Some MarksSize) ms)) (looked (Some DiskSize) ms))
-    by false b c e = never_starts blank d ms ls n DiskSize
-    by true false c e = never_starts blank d ms ls n MarksSize
-    by true true false e = never_starts blank d ms ls n ClientCount
-    by true true true false = never_starts blank d ms ls n LocalSize
-    by true true true true = looked_starts blank d ms ls n
+survey_finds P d ms ls n refused go =
+    cond_both (ltb 0 (length d.cells) && leb (length d.cells) 1024) _ _ P
+    (λ p.
+    cond_both (eqb (length ms.cells) (length d.cells)) _ _ P
+    (λ q.
+    cond_both (ltb 0 (length ls) && leb (length ls) 8) _ _ P
+    (λ r. cond_both (all_long (length d.cells + 1) ls) _ _ P (λ z. go p q r z) (λ _. refused LocalSize))
+    (λ _. refused ClientCount))
+    (λ _. refused MarksSize))
+    (λ _. refused DiskSize)
+
+pub new_inv : {V : Type 0} (blank : V) (d : Stored V) (ms : Stored ℕ) (ls : List (Stored V)) (n : ℕ) → Starts blank d ls n (surveyed d ms ls n)
+new_inv blank d ms ls n = survey_finds (Starts blank d ls n) d ms ls n (λ u e. cc) (λ _ _ _ _. looked_starts blank d ms ls n)

@@ -1,19 +1,22 @@
 -- Each call keeps the invariant, with the book fed, and an accepted read gives the last write.
-use Rattle.std.proofs.Common.{◌≡◌, ℕ, zero, suc, ◌+◌, ◌<◌, Bool, true, false, cond, ◌||◌, eqb, List, [], ◌∷◌, map, length, get_or, set, Some, None, Ok, Err, Option, Result, sym, refl, ap, ◌∙◌, subst, add-one, arith}
+use Rattle.std.proofs.Common.{◌≡◌, ℕ, zero, suc, ◌+◌, ◌<◌, Bool, true, false, cond, ◌||◌, eqb, List, map, length, get_or, set, Some, None, Ok, Err, Option, Result, sym, refl, ap, ◌∙◌, subst, add-one, arith, ◌≢◌}
+use Rattle.std.specs.Option.{is_none, option_map}
+use Rattle.std.proofs.Math.ListN.{get_or-map}
+use Rattle.std.proofs.lemmas.Grind.{get_or-set_at}
 use Rattle.std.proofs.lemmas.List.{get_or-set_same, get_or-set_other, length-set, length-map}
-use Rattle.std.proofs.lemmas.Bool.{eqb-true, eq-eqb, ne_eqb, and_parts, or_parts, not-true}
+use Rattle.std.proofs.lemmas.Bool.{cond_both, eqb-true, eqb-false, eq-eqb, ne_eqb, not-true}
 use Rattle.store.specs.declared.life.Life.{Life}
 use Rattle.store.specs.Stores.{Stored, stored, after_renew}
 use Rattle.records.specs.Clients as clients
-use Rattle.records.specs.Faults.{says, store_number}
+use Rattle.records.specs.Faults.{says}
 use Rattle.records.specs.Cells.{new_cell, unchecked_cell, dirtied, fresh, settled, marked, written_cell, swept_cell, sweeps}
-use Rattle.records.specs.Records.{names, is_none, cell_of, is_in_journal, unsent_at, with_cell}
+use Rattle.records.specs.Records.{names, cell_of, is_in_journal, unsent_at, with_cell}
 use Rattle.records.specs.Questions.{admitted, opening, beginning, committing, closing}
 use Rattle.rules.specs.Site.{State, Outcome, outcome, with_table, with_disk, with_marks, with_locals}
 use Rattle.rules.specs.Calls.{open_call, read_local, read_confirmed, read_fetched, read_call, write_call, begin_call, commit_call, give_up_call, close_call, sweep_cell, sweep_from, sweep_more, sweep_record, Sweeping, sweep_admitted, invalidate_call, restart_client_call, restart_server_call, with_note_of, begin_step, returned, commit_taken, commit_step, give_up_step}
 use Rattle.rules.specs.declared.answer.Source.{Source}
 use Rattle.rules.specs.Replies.{Out, out, refused, replied, open_reply, read_reply, begin_reply, noted_reply, plain_reply, plain, Reply, swept_out}
-use Rattle.rules.specs.Book.{Book, waiting, begun, after_sending, staged, entered, fed, Deed, reads, writes, begins, sends, other, put}
+use Rattle.rules.specs.Book.{Book, waiting, begun, after_sending, staged, entered, fed, Deed, reads, writes, begins, sends, other}
 use Rattle.rules.specs.Claim.{ReadRight}
 use Rattle.records.specs.Records as records
 use Rattle.records.specs.Questions as questions
@@ -23,36 +26,13 @@ use Rattle.records.specs.declared.records.ClientRecord.{ClientRecord}
 use Rattle.records.specs.declared.records.Flush.{Flush}
 use Rattle.records.specs.declared.fault.SiteFault.{SiteFault}
 use Rattle.records.specs.declared.fault.SiteFault.TheVariants as fault
-use Rattle.records.specs.declared.fault.StoreName.{StoreName}
-use Rattle.records.specs.declared.fault.StoreName.TheVariants.{Local, Marks, Disk}
-use Rattle.rules.proofs.Ways.{followed, chosen, by_disk_read, by_mark_read, by_disk_write, by_mark_write, entry, equal_or_not, somebody, nobody_else, unnamed, unheld, was_yes, admitted_says, opening_says, beginning_says, committing_says, closing_says, holding_says}
-use Rattle.rules.proofs.Sight.{Client, View, with_client, with_cells, held_by, store_of, client_of, cells_in, journal_in, mapped, seen, view, Relocal, same_locals, view_both, view_locals, by_local_read, by_local_write, journal_is, record_is, cell_known, flush_known}
+use Rattle.rules.proofs.Ways.{followed, by_disk_read, by_mark_read, by_disk_write, by_mark_write, entry, equal_or_not, somebody, nobody_else, unnamed, admitted_says, opening_says, beginning_says, committing_says, closing_says, holding_says}
+use Rattle.rules.proofs.Sight.{Client, View, with_client, with_cells, held_by, store_of, client_of, cells_in, journal_in, seen, view, Relocal, same_locals, view_both, by_local_read, by_local_write, journal_is, record_is, cell_known, flush_known}
 use Rattle.rules.proofs.Sight as sight
 use Rattle.rules.proofs.Invariant.{Inv, Of, Knows, Filed, mark_at, disk_at, changed, moved, lives, remarked, rewritten, write_own, book_other, check_own, fetch_own, begin_own, journal_else, sent_own, sent_serves, give_own, restart_own, drop_own, open_own, open_other, open_serves, close_own, close_other, close_serves, read_sure, read_fresh, read_disk, unsent_serves}
 
-pub nonzero : (n : ℕ) → eqb n 0 ≡ false → n ≡ 0 → ⊥
-nonzero n e z = let y : ◌≡◌ {A = ℕ} 0 1 = grind arith in omega arith
-
 pub fault_nonzero : (e : SiteFault) → eqb (says e).number 0 ≡ false
-fault_nonzero fault.Unfit = refl
-fault_nonzero fault.NoClient = refl
-fault_nonzero fault.Held = refl
-fault_nonzero fault.SessionsUsed = refl
-fault_nonzero fault.NotHolding = refl
-fault_nonzero fault.NoCell = refl
-fault_nonzero fault.JournalUsed = refl
-fault_nonzero fault.NotDirty = refl
-fault_nonzero fault.TurnsUsed = refl
-fault_nonzero fault.NoFlush = refl
-fault_nonzero (fault.Unsent i) = refl
-fault_nonzero fault.RowsUnequal = refl
-fault_nonzero fault.NoCall = refl
-fault_nonzero (fault.Store f) = by f.store
-  where
-    by : (w : StoreName) → eqb (store_number w) 0 ≡ false
-    by Local = refl
-    by Marks = refl
-    by Disk = refl
+fault_nonzero e = grind arith
 
 module _ {V : Type 0} (blank : V) where
   -- after a call that means q to the book b, at a site of m cells
@@ -61,37 +41,31 @@ module _ {V : Type 0} (blank : V) where
     pub inv : Inv blank m (view o.state) (fed b q o.reply.answer)
     pub right : ReadRight b q o.reply
 
-  right_refused : (b : Book V) (q : Deed V) (r : Reply V) → eqb r.answer.number 0 ≡ false → ReadRight b q r
-  right_refused b (reads k) r e = λ z. absurd (nonzero r.answer.number e z)
-  right_refused b (writes k v) r e = tt
-  right_refused b (begins k) r e = tt
-  right_refused b (sends k) r e = tt
-  right_refused b other r e = tt
-
   abbrev Kept : State V → Book V → Type 0
   Kept s b = Inv blank s.table.size (view s) b
 
   -- a refusal
   bad : {m : ℕ} {b : Book V} {q : Deed V} {s : State V} (e : SiteFault) (p n : ℕ) → s.table.size ≡ m → Inv blank m (view s) b → Fine m b q (out s (plain (refused p n e)))
-  bad {m} {b} {q} {s} e p n z i = record { size = z; inv = rw (fault_nonzero e) i; right = right_refused b q (plain (refused p n e)) (fault_nonzero e) }
+  bad {m} {b} {q} {s} e p n z i = record { size = z; inv = rw (fault_nonzero e) i; right = let z = fault_nonzero e in grind (arith, eqb-false) }
 
-  -- the local store has another life
-  aged_local : (s : State V) (b : Book V) (c : ℕ) (l : Life) (ls : List (Stored V)) → Relocal s.locals c (stored (store_of s.locals c).cells l) ls → Kept s b → Kept (with_locals s ls) b
-  aged_local s b c l ls r i =
-      subst (λ (v : View V). Inv blank s.table.size v b) (sym (view_locals s ls c _ r))
-      (changed blank s.table.size (view s) b c _ i (λ k h. i.keeps k c h) (i.filed c))
-
-  -- one cell's record was changed to r, and the store to b
-  put_cell : (b : Stored V) (o : Option ClientRecord) (k : ℕ) (r : CellRecord)
-      → seen b (mapped (λ c. records.with_cells c (set c.cells k r)) o) ≡ record { local = b; cells = set (cells_in o) k r; journal = journal_in o }
-  put_cell b None k r = refl
-  put_cell b (Some x) k r = refl
+  -- client c's store was changed to l and its record by f, which the invariant sees as cl
+  seen_as : {m : ℕ} {b : Book V} {ls : List (Stored V)} {l : Stored V} (s : State V) (c : ℕ) (f : ClientRecord → ClientRecord) (cl : Client V) → Relocal s.locals c l ls
+      → seen l (option_map f (client_of s.table c)) ≡ cl → Inv blank m (with_client (view s) c cl) b
+      → Inv blank m (view (with_table (with_locals s ls) (records.with_clients s.table (clients.changed f s.table.clients c)))) b
+  seen_as {m} {b} {ls} {l} s c f cl r e i = subst (λ (u : View V). Inv blank m u b) (sym (view_both s ls f c l r ∙ ap (with_client (view s) c) e)) i
 
   abbrev cs : State V → ℕ → List CellRecord
   cs s c = cells_in (client_of s.table c)
 
   abbrev js : State V → ℕ → Option ℕ
   js s c = journal_in (client_of s.table c)
+
+  -- the local store has another life
+  aged_local : (s : State V) (b : Book V) (c : ℕ) (l : Life) (ls : List (Stored V)) → Relocal s.locals c (stored (store_of s.locals c).cells l) ls → Kept s b → Kept (with_locals s ls) b
+  aged_local s b c l ls r i =
+      let cl : Client V = record { local = stored (store_of s.locals c).cells l; cells = cs s c; journal = js s c } in
+      subst (λ (xs : List ClientRecord). Kept (with_table (with_locals s ls) (records.with_clients s.table xs)) b) (sight.changed_same (λ x. x) s.table.clients c (grind arith))
+      (seen_as s c _ cl r (grind arith) (changed blank s.table.size (view s) b c cl i (λ k h. i.keeps k c h) (i.filed c)))
 
   filed_set : (s : State V) (b : Book V) (c k : ℕ) (r : CellRecord) (l : Stored V) → Kept s b → Filed blank s.table.size (record { local = l; cells = set (cs s c) k r; journal = js s c })
   filed_set s b c k r l i j e = rw (length-set (cs s c) k r) (i.filed c j e)
@@ -112,7 +86,7 @@ module _ {V : Type 0} (blank : V) where
       record {
         size = refl;
         inv =
-            subst (λ (u : View V). Inv blank m u (put b k (record { last = v; stage = waiting }))) (sym (view_both s ls _ c _ rel ∙ ap (with_client (view s) c) (put_cell _ (client_of s.table c) k r)))
+            seen_as s c _ cl rel (grind arith)
             (moved blank m (view s) b c k cl (record { last = v; stage = waiting }) i
             (λ _. unsent_serves (i.serves k h) (somebody s.table.holder c y.0) v waiting refl)
             (λ _. rw (get_or-set_same (cs s c) k r new_cell w.1, get_or-set_same xs k v blank z, get_or-set_other xs k m v blank n) (write_own (i.keeps k c h) y.0 v))
@@ -129,9 +103,8 @@ module _ {V : Type 0} (blank : V) where
       subst (λ (r : CellRecord). Knows blank s.table.size (view s) (b k) k c ((view s).clients c) r (mark_at (view s) k) (disk_at blank s.table.size (view s) k)) e (i.keeps k c h)
 
   begun_client : (b : Stored V) (o : Option ClientRecord) (k : ℕ) (r : CellRecord) (n : ℕ) → k < length (cells_in o)
-      → seen b (mapped (λ c. records.begun_client c k r n) o) ≡ record { local = b; cells = set (cells_in o) k (dirtied false r); journal = Some k }
-  begun_client b None k r n h = absurd (omega arith)
-  begun_client b (Some x) k r n h = refl
+      → seen b (option_map (λ c. records.begun_client c k r n) o) ≡ record { local = b; cells = set (cells_in o) k (dirtied false r); journal = Some k }
+  begun_client b o k r n h = grind arith
 
   pub begin_fine : (s : State V) (b : Book V) (c k : ℕ) → Kept s b → Fine s.table.size b (begins k) (replied (begin_reply k) (begin_call s c k))
   begin_fine s b c k i =
@@ -156,7 +129,7 @@ module _ {V : Type 0} (blank : V) where
       record {
         size = refl;
         inv =
-            subst (λ (u : View V). Inv blank m u (put b k (staged (b k) begun))) (sym (view_both s₁ ls' _ c _ rel' ∙ ap (with_client (view s₁) c) (begun_client _ (client_of s.table c) k x xn.1 w.1)))
+            seen_as s₁ c _ cl rel' (begun_client _ (client_of s.table c) k x xn.1 w.1)
             (moved blank m (view s₁) b c k cl (staged (b k) begun) i₁
             (λ _. unsent_serves (i₁.serves k h) (somebody s.table.holder c y.0) (b k).last begun refl)
             (λ _. rw (get_or-set_same (cs s c) k r new_cell w.1, get_or-set_other xs m k v blank n, get_or-set_same xs m v blank z, eq-eqb k k refl, same) (begin_own (own_keeps s₁ b c k x i₁ h w.0) y.0 y.4))
@@ -169,12 +142,8 @@ module _ {V : Type 0} (blank : V) where
         right = tt;
       }
 
-  emptied_client : (b : Stored V) (o : Option ClientRecord) → seen b (mapped (λ c. records.with_journal c None) o) ≡ record { local = b; cells = cells_in o; journal = None }
-  emptied_client b None = refl
-  emptied_client b (Some x) = refl
-
   no_journal : (m : ℕ) (l : Stored V) (xs : List CellRecord) → Filed blank m (record { local = l; cells = xs; journal = None })
-  no_journal m l xs k e = let z : ◌≡◌ {A = ℕ} 0 1 = cc in absurd (omega arith)
+  no_journal m l xs k e = cc
 
   pub commit_fine : (s : State V) (b : Book V) (c k t : ℕ) → Kept s b → Fine s.table.size b (sends k) (replied (plain_reply k) (commit_call blank s c k t))
   commit_fine s b c k t i =
@@ -202,7 +171,7 @@ module _ {V : Type 0} (blank : V) where
       record {
         size = refl;
         inv =
-            subst (λ (u : View V). Inv blank m u (put b k (staged (b k) (after_sending (b k).stage)))) (sym (view_both s₃ ls' _ c _ rel' ∙ ap (with_client (view s₃) c) (emptied_client _ (client_of s.table c))))
+            seen_as s₃ c _ cl rel' (grind arith)
             (moved blank m (view s₃) b c k cl (staged (b k) (after_sending (b k).stage)) i₃
             (λ h. sent_serves (i₃.keeps k c h) (i₃.serves k h) mine (somebody s.table.holder c mine) f e)
             (λ h.
@@ -216,24 +185,18 @@ module _ {V : Type 0} (blank : V) where
         right = tt;
       }
 
-  given_client : (b : Stored V) (o : Option ClientRecord) (k : ℕ)
-      → seen b (mapped (λ c. records.given_up_client c k) o)
-      ≡ record { local = b; cells = set (cells_in o) k (dirtied true (get_or (cells_in o) k new_cell)); journal = None }
-  given_client b None k = refl
-  given_client b (Some x) k = refl
-
   pub give_up_fine : (s : State V) (b : Book V) (c k t : ℕ) → Kept s b → Fine s.table.size b other (replied (plain_reply k) (give_up_call s c k t))
   give_up_fine s b c k t i =
       let m : ℕ = s.table.size in
       let P : Outcome V (Unit {0}) → Type 0 = λ o. Fine m b other (replied (plain_reply k) o) in
       followed P s (questions.giving_up s.table c k t) _ (λ e. bad e k 0 refl i) λ x a.
-      let f : names (js s c) k ≡ true = flush_known s.table c k t (was_yes _ _ _ _ a).0 in
+      let f : names (js s c) k ≡ true = flush_known s.table c k t (grind arith) in
       let r : CellRecord = dirtied true (get_or (cs s c) k new_cell) in
       let cl : Client V = record { local = store_of s.locals c; cells = set (cs s c) k r; journal = None } in
       record {
         size = refl;
         inv =
-            subst (λ (u : View V). Inv blank m u b) (sym (view_both s s.locals _ c _ (same_locals s.locals c) ∙ ap (with_client (view s) c) (given_client _ (client_of s.table c) k)))
+            seen_as s c _ cl (same_locals s.locals c) (grind arith)
             (changed blank m (view s) b c cl i
             (λ k' h'.
             equal_or_not _ k' k
@@ -242,16 +205,6 @@ module _ {V : Type 0} (blank : V) where
             (no_journal m (store_of s.locals c) (set (cs s c) k r)));
         right = tt;
       }
-
-  unchecked_client : (b : Stored V) (o : Option ClientRecord)
-      → seen b (mapped (λ c. records.with_cells c (map unchecked_cell c.cells)) o) ≡ record { local = b; cells = map unchecked_cell (cells_in o); journal = journal_in o }
-  unchecked_client b None = refl
-  unchecked_client b (Some x) = refl
-
-  get_or_unchecked : (xs : List CellRecord) (k : ℕ) → get_or (map unchecked_cell xs) k new_cell ≡ unchecked_cell (get_or xs k new_cell)
-  get_or_unchecked [] k = refl
-  get_or_unchecked (x ∷ xs) zero = refl
-  get_or_unchecked (x ∷ xs) (suc k) = get_or_unchecked xs k
 
   filed_unchecked : (s : State V) (b : Book V) (c : ℕ) → Kept s b → Filed blank s.table.size (record { local = store_of s.locals c; cells = map unchecked_cell (cs s c); journal = js s c })
   filed_unchecked s b c i k e = rw (length-map (cs s c) unchecked_cell) (i.filed c k e)
@@ -270,26 +223,23 @@ module _ {V : Type 0} (blank : V) where
       record {
         size = refl;
         inv =
-            subst (λ (w : View V). Inv blank m w b)
-            (sym (view_both s₁ s.locals _ c _ (same_locals s.locals c) ∙ ap (with_client (view s₁) c) (unchecked_client _ (client_of s.table c))
-            ∙ ap (λ (x : ℕ). with_client (held_by (view s) x (Some c)) c cl) raised))
+            seen_as s₁ c _ cl (same_locals s.locals c) (grind arith)
+            (subst (λ (x : ℕ). Inv blank m (with_client (held_by (view s) x (Some c)) c cl) b) (sym raised)
             (record {
               serves = λ k h. open_serves (i.serves k h);
               keeps = λ k c' h.
                   entry (λ x. Of blank m v₁ (b k) k c' x) (view s).clients c cl c'
                   (λ e. subst (λ (j : ℕ). Of blank m v₁ (b k) k j cl) (sym e)
-                  (rw (get_or_unchecked (cs s c) k, eq-eqb c c refl) (open_own (i.keeps k c h) (unnamed s.table.holder u c) ((i.serves k h).idle (unheld s.table.holder u)))))
+                  (rw (get_or-map unchecked_cell (cs s c) k new_cell, eq-eqb c c refl) (open_own (i.keeps k c h) (unnamed s.table.holder u c) ((i.serves k h).idle (not-true _ u)))))
                   (λ ne. rw (ne_eqb c c' (λ e. ne (sym e))) (open_other (i.keeps k c' h) (unnamed s.table.holder u c')));
               filed = λ c'. entry (Filed blank m) (view s).clients c cl c' (λ _. filed_unchecked s b c i) (λ _. i.filed c');
-            });
+            }));
         right = tt;
       }
 
   -- a cell that is neither dirty nor in the journal, by a test that failed
   pub clean_at : (s : State V) (c k : ℕ) → unsent_at s.table c k ≡ false → ((get_or (cs s c) k new_cell).dirty ≡ false) × (names (js s c) k ≡ false)
-  clean_at s c k e =
-      let z = or_parts _ _ e in
-      (sym (ap (λ (r : CellRecord). r.dirty) (record_is s.table c k)) ∙ z.0, sym (ap (λ j. names j k) (journal_is s.table c)) ∙ z.1)
+  clean_at s c k e = let r = record_is s.table c k in let j = journal_is s.table c in grind arith
 
   pub close_fine : (s : State V) (b : Book V) (c : ℕ) → Kept s b → Fine s.table.size b other (replied (plain_reply 0) (close_call s c))
   close_fine s b c i =
@@ -305,12 +255,12 @@ module _ {V : Type 0} (blank : V) where
       record {
         size = refl;
         inv =
-            subst (λ (w : View V). Inv blank m w b) (sym (view_both s₁ s.locals _ c _ (same_locals s.locals c) ∙ ap (with_client (view s₁) c) (unchecked_client _ (client_of s.table c))))
+            seen_as s₁ c _ cl (same_locals s.locals c) (grind arith)
             (record {
               serves = λ k h. close_serves (i.keeps k c h) (i.serves k h) mine (clean k h).0 (clean k h).1;
               keeps = λ k c' h.
                   entry (λ x. Of blank m v₁ (b k) k c' x) (view s).clients c cl c'
-                  (λ e. rw (get_or_unchecked (cs s c) k) (close_own (i.keeps k c h) (clean k h).0 (clean k h).1))
+                  (λ e. rw (get_or-map unchecked_cell (cs s c) k new_cell) (close_own (i.keeps k c h) (clean k h).0 (clean k h).1))
                   (λ n. close_other (i.keeps k c' h) (nobody_else s.table.holder c c' mine n));
               filed = λ c'. entry (Filed blank m) (view s).clients c cl c' (λ _. filed_unchecked s b c i) (λ _. i.filed c');
             });
@@ -324,7 +274,7 @@ module _ {V : Type 0} (blank : V) where
   noticed s b c k r i w own =
       let m : ℕ = s.table.size in
       let cl : Client V = record { local = store_of s.locals c; cells = set (cs s c) k r; journal = js s c } in
-      subst (λ (u : View V). Inv blank m u b) (sym (view_both s s.locals _ c _ (same_locals s.locals c) ∙ ap (with_client (view s) c) (put_cell _ (client_of s.table c) k r)))
+      seen_as s c _ cl (same_locals s.locals c) (grind arith)
       (changed blank m (view s) b c cl i
       (λ k' h'.
       equal_or_not _ k' k
@@ -333,9 +283,6 @@ module _ {V : Type 0} (blank : V) where
       (filed_set s b c k r (store_of s.locals c) i))
 
   -- what a read's first test says
-  unsettled : (x : CellRecord) (j : Bool) → settled x j ≡ false → (x.dirty ≡ false) × (j ≡ false)
-  unsettled x j e = let z = or_parts _ _ e in (z.0, (or_parts _ _ z.1).0)
-
   pub read_fine : (s : State V) (b : Book V) (c k : ℕ) → Kept s b → Fine s.table.size b (reads k) (replied (read_reply k) (read_call s c k))
   unfolding read_local read_confirmed read_fetched
   read_fine s b c k i =
@@ -347,21 +294,22 @@ module _ {V : Type 0} (blank : V) where
       let h : k < m = y.1 in
       let w = cell_known s.table c k x y.2 in
       let xs : List V = (store_of s.locals c).cells in
+      let j = journal_is s.table c in
       let kp = own_keeps s b c k x i h w.0 in
-      chosen P (settled x (is_in_journal s.table c k)) _ _
+      cond_both (settled x (is_in_journal s.table c k)) _ _ P
       (λ u.
       by_local_read P s c k blank _ (λ e. bad e k 0 refl i) λ l ls rel.
       record {
         size = refl;
         inv = aged_local s b c l ls rel i;
-        right = λ _. ap Some (read_sure kp (i.serves k h) mine (subst (λ (j : Option ℕ). settled x (names j k) ≡ true) (journal_is s.table c) u));
+        right = λ _. ap Some (read_sure kp (i.serves k h) mine (grind arith));
       })
       (λ u.
-      let clean : (x.dirty ≡ false) × (names (js s c) k ≡ false) = unsettled x _ (subst (λ (j : Option ℕ). settled x (names j k) ≡ false) (journal_is s.table c) u) in
+      let clean : (x.dirty ≡ false) × (names (js s c) k ≡ false) = grind arith in
       by_mark_read P s k _ (λ e. bad e k 0 refl i) λ lm.
       let s₁ : State V = with_marks s (stored s.marks.cells lm) in
       let i₁ : Kept s₁ b = lives blank m lm s.disk.life i in
-      chosen P (fresh x.kept (get_or s.marks.cells k 0)) _ _
+      cond_both (fresh x.kept (get_or s.marks.cells k 0)) _ _ P
       (λ f.
       by_local_read P s₁ c k blank _ (λ e. bad e k 0 refl i₁) λ l ls rel.
       record {
@@ -382,7 +330,7 @@ module _ {V : Type 0} (blank : V) where
       record {
         size = refl;
         inv =
-            subst (λ (q : View V). Inv blank m q b) (sym (view_both s₂ ls _ c _ rel ∙ ap (with_client (view s₂) c) (put_cell _ (client_of s.table c) k r)))
+            seen_as s₂ c _ cl rel (grind arith)
             (changed blank m (view s₂) b c cl i₂
             (λ k' h'.
             equal_or_not _ k' k
@@ -408,11 +356,11 @@ module _ {V : Type 0} (blank : V) where
       by None e = go s _ i mine
       by (Some x) e =
           let P : Outcome V Bool → Type 0 = Onward s b rest j d in
-          chosen P (sweeps x (is_in_journal s.table c j)) _ _
+          cond_both (sweeps x (is_in_journal s.table c j)) _ _ P
           (λ u.
           let w = cell_known s.table c j x e in
-          let q = or_parts _ _ (not-true _ (and_parts _ _ u).1) in
-          let f : names (js s c) j ≡ false = sym (ap (λ o. names o j) (journal_is s.table c)) ∙ q.1 in
+          let y = journal_is s.table c in
+          let q : (x.dirty ≡ false) × (names (js s c) j ≡ false) = grind arith in
           by_mark_read P s j _ (λ z. bad z j d refl i) λ lm.
           let s₁ : State V = with_marks s (stored s.marks.cells lm) in
           let i₁ : Kept s₁ b = lives blank s.table.size lm s.disk.life i in
@@ -420,9 +368,9 @@ module _ {V : Type 0} (blank : V) where
           let R : CellRecord → Type 0 = λ r. j < s.table.size
           → Knows blank s.table.size (view s₁) (b j) j c ((view s₁).clients c) r (mark_at (view s₁) j) (disk_at blank s.table.size (view s₁) j) in
           let own : R (swept_cell x mark) =
-          chosen R (fresh x.kept mark) _ _
-          (λ y h. check_own (own_keeps s₁ b c j x i₁ h w.0) mine q.0 f y)
-          (λ _ h. drop_own (own_keeps s₁ b c j x i₁ h w.0) q.0 f) in
+          cond_both (fresh x.kept mark) _ _ R
+          (λ z h. check_own (own_keeps s₁ b c j x i₁ h w.0) mine q.0 q.1 z)
+          (λ _ h. drop_own (own_keeps s₁ b c j x i₁ h w.0) q.0 q.1) in
           go (with_table s₁ (with_cell s.table c j (swept_cell x mark))) _ (noticed s₁ b c j (swept_cell x mark) i₁ w.1 own) mine)
           (λ _. go s _ i mine)
 
@@ -448,38 +396,14 @@ module _ {V : Type 0} (blank : V) where
   abbrev revived : CellRecord → Bool → CellRecord
   revived r j = record { kept = r.kept; checked = false; dirty = r.dirty || j }
 
-  or_no : (b : Bool) → b ≡ (b || false)
-  or_no true = refl
-  or_no false = refl
-
-  or_yes : (b : Bool) → true ≡ (b || true)
-  or_yes true = refl
-  or_yes false = refl
-
   get_or_soiled : (xs : List CellRecord) (j : Option ℕ) (k : ℕ) → (names j k ≡ true → k < length xs)
       → get_or (map unchecked_cell (records.soiled xs j)) k new_cell ≡ revived (get_or xs k new_cell) (names j k)
-  get_or_soiled xs None k f =
-      get_or_unchecked xs k ∙ ap (λ (d : Bool). record { kept = (get_or xs k new_cell).kept; checked = false; dirty = d }) (or_no (get_or xs k new_cell).dirty)
-  get_or_soiled xs (Some j) k f =
-      let r : CellRecord = dirtied true (get_or xs j new_cell) in
-      get_or_unchecked (set xs j r) k
-      ∙ equal_or_not (unchecked_cell (get_or (set xs j r) k new_cell) ≡ revived (get_or xs k new_cell) (eqb j k)) k j
-      (λ e.
-      let t : eqb j k ≡ true = eq-eqb j k (sym e) in
-      subst (λ (b : Bool). unchecked_cell (get_or (set xs j r) k new_cell) ≡ revived (get_or xs k new_cell) b) (sym t)
-      (subst (λ (i : ℕ). unchecked_cell (get_or (set xs i (dirtied true (get_or xs i new_cell))) k new_cell) ≡ revived (get_or xs k new_cell) true) e
-      (ap unchecked_cell (get_or-set_same xs k (dirtied true (get_or xs k new_cell)) new_cell (f t))
-      ∙ ap (λ (d : Bool). record { kept = (get_or xs k new_cell).kept; checked = false; dirty = d }) (or_yes (get_or xs k new_cell).dirty))))
-      (λ n.
-      subst (λ (b : Bool). unchecked_cell (get_or (set xs j r) k new_cell) ≡ revived (get_or xs k new_cell) b) (sym (ne_eqb j k (λ e. n (sym e))))
-      (ap unchecked_cell (get_or-set_other xs j k r new_cell n)
-      ∙ ap (λ (d : Bool). record { kept = (get_or xs k new_cell).kept; checked = false; dirty = d }) (or_no (get_or xs k new_cell).dirty)))
-
-  restarted_client : (b : Stored V) (o : Option ClientRecord)
-      → seen b (mapped (λ c. record { cells = map unchecked_cell (records.soiled c.cells c.journal); journal = None; turn = c.turn; note = None }) o)
-      ≡ record { local = b; cells = map unchecked_cell (records.soiled (cells_in o) (journal_in o)); journal = None }
-  restarted_client b None = refl
-  restarted_client b (Some x) = refl
+  get_or_soiled xs None k f = get_or-map unchecked_cell xs k new_cell ∙ grind arith
+  get_or_soiled xs (Some j) k f = get_or-map unchecked_cell (records.soiled xs (Some j)) k new_cell ∙ by (eqb j k) refl
+    where
+      by : (t : Bool) → eqb j k ≡ t → unchecked_cell (get_or (records.soiled xs (Some j)) k new_cell) ≡ revived (get_or xs k new_cell) t
+      by true t = let l : k < length xs = f t in let e : j ≡ k = eqb-true j k t in grind (arith, get_or-set_at)
+      by false t = let n : k ≢ j = λ e. eqb-false j k t (sym e) in grind (arith, get_or-set_other)
 
   -- the local store of client c renewed
   renewed_locals : (ls : List (Stored V)) (c n : ℕ) → (l : Life) × Relocal ls c (stored (store_of ls c).cells l) (clients.changed (after_renew n) ls c)
@@ -489,14 +413,14 @@ module _ {V : Type 0} (blank : V) where
       by None e = (
         (store_of ls c).life,
         record {
-          own = ap (λ (xs : List (Stored V)). store_of xs c) (sight.changed_same (after_renew n) ls c (ap (mapped (after_renew n)) e ∙ sym e));
+          own = ap (λ (xs : List (Stored V)). store_of xs c) (sight.changed_same (after_renew n) ls c (ap (option_map (after_renew n)) e ∙ sym e));
           else = λ c' z. ap sight.or_no_store (sight.changed_else (after_renew n) ls c c' z);
         },
       )
       by (Some b) e = (
         (after_renew n (store_of ls c)).life,
         record {
-          own = ap sight.or_no_store (sight.changed_at (after_renew n) ls c ∙ ap (mapped (after_renew n)) e) ∙ sym (ap (after_renew n) (ap sight.or_no_store e));
+          own = ap sight.or_no_store (sight.changed_at (after_renew n) ls c ∙ ap (option_map (after_renew n)) e) ∙ sym (ap (after_renew n) (ap sight.or_no_store e));
           else = λ c' z. ap sight.or_no_store (sight.changed_else (after_renew n) ls c c' z);
         },
       )
@@ -511,21 +435,17 @@ module _ {V : Type 0} (blank : V) where
       record {
         size = refl;
         inv =
-            subst (λ (u : View V). Inv blank m u b) (sym (view_both s _ _ c _ z.1 ∙ ap (with_client (view s) c) (restarted_client _ (client_of s.table c))))
+            seen_as s c _ cl z.1 (grind arith)
             (changed blank m (view s) b c cl i
             (λ k h. rw (get_or_soiled (cs s c) (js s c) k (i.filed c k)) (restart_own (i.keeps k c h)))
             (no_journal m (stored (store_of s.locals c).cells z.0) (map unchecked_cell (records.soiled (cs s c) (js s c)))));
         right = tt;
       }
 
-  noted_client : (b : Stored V) (o : Option ClientRecord) (n : Option Flush) → seen b (mapped (λ c. records.with_note c n) o) ≡ record { local = b; cells = cells_in o; journal = journal_in o }
-  noted_client b None n = refl
-  noted_client b (Some x) n = refl
-
   -- a note changes nothing that the invariant speaks of
   note_kept : (s : State V) (b : Book V) (m c : ℕ) (n : Option Flush) → Inv blank m (view s) b → Inv blank m (view (with_note_of s c n)) b
   note_kept s b m c n i =
-      subst (λ (u : View V). Inv blank m u b) (sym (view_both s s.locals _ c _ (same_locals s.locals c) ∙ ap (with_client (view s) c) (noted_client _ (client_of s.table c) n)))
+      seen_as s c _ ((view s).clients c) (same_locals s.locals c) (grind arith)
       (changed blank m (view s) b c _ i (λ k h. i.keeps k c h) (i.filed c))
 
   note_fine : (m : ℕ) (b : Book V) (q : Deed V) (s : State V) (r : Reply V) (c : ℕ) (n : Option Flush) → Fine m b q (out s r) → Fine m b q (out (with_note_of s c n) r)

@@ -1,29 +1,25 @@
 -- From a new fit site, after any list of acts, reads gave the last writes, and the disk lags only at unsent cells.
-use Rattle.std.proofs.Common.{◌≡◌, ℕ, ◌<◌, true, false, ◌||◌, List, [], ◌∷◌, ◌++◌, map, length, get_or, Some, None, Option, unwrap_or, sym, refl, ap, ◌∙◌, subst, arith}
+use Rattle.std.proofs.Common.{◌≡◌, ℕ, ◌<◌, true, List, [], ◌∷◌, ◌++◌, map, length, get_or, Some, None, Option, unwrap_or, sym, refl, ap, ◌∙◌, subst, arith}
 use Rattle.std.proofs.lemmas.Bool.{eq-eqb}
 use Rattle.store.specs.Stores.{Stored, stored}
-use Rattle.records.specs.Clients.{asked}
-use Rattle.records.specs.Cells.{new_cell, fresh}
-use Rattle.records.specs.Records.{names, journal_of}
+use Rattle.records.specs.Cells.{fresh}
 use Rattle.rules.specs.Site.{State}
 use Rattle.rules.specs.Making.{within, Start, made}
 use Rattle.rules.specs.Replies.{Call, Open, Read, Write, Begin, Commit, GiveUp, Close, Invalidate, RestartClient, RestartServer, BeginStep, CommitStep, GiveUpStep, NoStep, Reply, Out, out, called}
 use Rattle.rules.specs.Runs.{Rows, Running, running, run_calls, ran}
-use Rattle.rules.specs.Book.{Book, Stage, sent, unsent, feed, deed}
+use Rattle.rules.specs.Book.{Book, unsent, feed, deed}
 use Rattle.rules.specs.History.{Entry, Act, logged, row_log, book_of, after, log}
 use Rattle.rules.specs.Claim.{ReadRight, Fit, held_back, new_book, Lags, copy_of, CopyTrue, Upheld, Upholds, SameStart, RepliesAlike}
 use Rattle.rules.specs.Carry.{Continues, ContinuesRun}
 use Rattle.rules.specs.declared.answer.Answer.{Answer}
 use Rattle.records.specs.declared.records.CellRecord.{CellRecord}
 use Rattle.records.specs.declared.fault.Unfit.{Unfit}
-use Rattle.rules.proofs.Sight.{view, store_of, or_no_store, client_of, cells_in, mapped, asked_mapped, record_is, journal_is}
+use Rattle.records.proofs.Tables.{asked_as}
+use Rattle.rules.proofs.Sight.{view, store_of, record_is, journal_is}
 use Rattle.rules.proofs.Invariant.{Inv, Of, At}
 use Rattle.rules.proofs.Steps.{Fine, clean_at, open_fine, read_fine, write_fine, begin_fine, commit_fine, give_up_fine, close_fine, invalidate_fine, restart_client_fine, restart_server_fine, begin_step_fine, commit_step_fine, give_up_step_fine, no_step_fine}
 use Rattle.rules.proofs.Plays.{calls, calls_after, calls_log, after_joined, log_joined, run_does, acts_do}
 use Rattle.rules.proofs.Starts.{new_inv}
-
-sent_not_unsent : (g : Stage) → g ≡ sent → unsent g ≡ false
-sent_not_unsent g e = grind arith
 
 module _ {V : Type 0} (blank : V) where
   all_fine : (s : State V) (b : Book V) (q : Call V) → Inv blank s.table.size (view s) b → Fine blank s.table.size b (deed q (called blank s q).reply.answer) (called blank s q)
@@ -58,8 +54,8 @@ module _ {V : Type 0} (blank : V) where
 
   reads_right : (m : ℕ) (s : State V) (b : Book V) → Kept m s b → (qs : List (Call V)) (before : List (Entry V)) (e : Entry V) (rest : List (Entry V))
       → calls_log (called blank) s qs ≡ before ++ (e ∷ rest) → ReadRight (book_of b before) (deed e.call e.reply.answer) e.reply
-  reads_right m s b i [] [] e rest q = let z : ◌≡◌ {A = ℕ} 0 1 = cc in absurd (omega arith)
-  reads_right m s b i [] (x ∷ before) e rest q = let z : ◌≡◌ {A = ℕ} 0 1 = cc in absurd (omega arith)
+  reads_right m s b i [] [] e rest q = cc
+  reads_right m s b i [] (x ∷ before) e rest q = cc
   reads_right m s b i (q ∷ qs) [] e rest z =
       let w : logged q (called blank s q).reply ≡ e = cc in
       subst (λ (x : Entry V). ReadRight b (deed x.call x.reply.answer) x.reply) w (fine_at m s b q i).right
@@ -73,22 +69,19 @@ module _ {V : Type 0} (blank : V) where
   -- what the invariant says of the holder
   held_exactly : (m : ℕ) (s : State V) (b : Book V) (k : ℕ) (h : Option ℕ) → s.table.holder ≡ h → At blank m (view s) (b k) k → ((c : ℕ) → Of blank m (view s) (b k) k c ((view s).clients c))
       → unsent (b k).stage ≡ held_back s.table h k
-  held_exactly m s b k None e a f = sent_not_unsent (b k).stage (a.idle (rw e refl))
+  held_exactly m s b k None e a f = let i = a.idle (rw e refl) in grind arith
   held_exactly m s b k (Some c) e a f =
-      (f c).exactly (rw e (eq-eqb c c refl))
-      ∙ sym (ap (λ (r : CellRecord). r.dirty || names (journal_of s.table c) k) (record_is s.table c k)
-      ∙ ap (λ (j : Option ℕ). (get_or (cells_in (client_of s.table c)) k new_cell).dirty || names j k) (journal_is s.table c))
+      let x = (f c).exactly (rw e (eq-eqb c c refl)) in
+      let r = record_is s.table c k in
+      let j = journal_is s.table c in
+      grind arith
 
   lags_at : (m : ℕ) (s : State V) (b : Book V) → Inv blank m (view s) b → (k : ℕ) → k < m → Lags blank s b k
   lags_at m s b i k h = record { disk_is = (i.serves k h).same; exactly = held_exactly m s b k s.table.holder refl (i.serves k h) (λ c. i.keeps k c h) }
 
   -- the local cell, as the invariant sees it
   copy_is : (s : State V) (k i : ℕ) → copy_of blank s k i ≡ get_or (store_of s.locals k).cells i blank
-  copy_is s k i = ap (λ (o : Option V). unwrap_or o blank) (asked_mapped (λ b. get_or b.cells i blank) s.locals k) ∙ by (asked (λ b. b) s.locals k)
-    where
-      by : (o : Option (Stored V)) → unwrap_or (mapped (λ (b : Stored V). get_or b.cells i blank) o) blank ≡ get_or (or_no_store o).cells i blank
-      by None = refl
-      by (Some b) = refl
+  copy_is s k i = ap (λ (o : Option V). unwrap_or o blank) (asked_as (λ b. get_or b.cells i blank) s.locals k) ∙ grind arith
 
   copies_at : (m : ℕ) (s : State V) (b : Book V) → Inv blank m (view s) b → (k i : ℕ) → i < m → CopyTrue blank s k i
   copies_at m s b w k i h e f =
@@ -113,12 +106,7 @@ module _ {V : Type 0} (blank : V) where
       → Upheld blank x (log (called blank) (made x) before ++ calls_log (called blank) (after (called blank) (made x) before) qs) (calls_after (called blank) (after (called blank) (made x) before) qs)
   upheld_on x e before qs =
       let d = acts_do blank (made x) before in
-      let P : State V → List (Entry V) → Type 0 = λ u es. Upheld blank x (es ++ calls_log (called blank) u qs) (calls_after (called blank) u qs) in
-      subst (λ (u : State V). P u (log (called blank) (made x) before)) (sym d.0)
-      (subst (λ (es : List (Entry V)). P (calls_after (called blank) (made x) (calls before)) es) (sym d.1)
-      (subst (λ (es : List (Entry V)). Upheld blank x es (calls_after (called blank) (calls_after (called blank) (made x) (calls before)) qs)) (log_joined (called blank) (made x) (calls before) qs)
-      (subst (λ (u : State V). Upheld blank x (calls_log (called blank) (made x) (calls before ++ qs)) u) (after_joined (called blank) (made x) (calls before) qs)
-      (calls_upheld x e (calls before ++ qs)))))
+      rw (d.0, d.1, ← log_joined (called blank) (made x) (calls before) qs, ← after_joined (called blank) (made x) (calls before) qs) (calls_upheld x e (calls before ++ qs))
 
   -- a call that does what the rules say
   pub continues : (entry : State V) (q : Call V) (exit : State V) (r : Reply V) → out exit r ≡ called blank entry q → Continues blank entry q exit r
@@ -136,23 +124,19 @@ module _ {V : Type 0} (blank : V) where
     whatever = λ x before fit led.
         let d = run_does blank entry r in
         subst (λ (w : Running V). Upheld blank x (log (called blank) (made x) before ++ row_log (run_calls r) w.answers w.got) w.state) (sym e)
-        (subst (λ (es : List (Entry V)). Upheld blank x (log (called blank) (made x) before ++ es) (ran (called blank) entry r).state) (sym d.1)
-        (subst (λ (u : State V). Upheld blank x (log (called blank) (made x) before ++ calls_log (called blank) entry (run_calls r)) u) (sym d.0)
-        (subst (λ (u : State V). Upheld blank x (log (called blank) (made x) before ++ calls_log (called blank) u (run_calls r)) (calls_after (called blank) u (run_calls r))) led
-        (upheld_on x fit before (run_calls r)))));
+        (rw (d.1, d.0, ← led) (upheld_on x fit before (run_calls r)));
   }
 
 pub upholds : (V : Type 0) → Upholds V called
 upholds V blank x fit acts =
     let d = acts_do blank (made x) acts in
-    subst (λ (u : State V). Upheld blank x (log (called blank) (made x) acts) u) (sym d.0)
-    (subst (λ (es : List (Entry V)). Upheld blank x es (calls_after (called blank) (made x) (calls acts))) (sym d.1) (calls_upheld blank x fit (calls acts)))
+    rw (d.0, d.1) (calls_upheld blank x fit (calls acts))
 
 -- stores with the same cells and lives are the same
 same_stores : {V : Type 0} (xs ys : List (Stored V)) → map (λ b. b.cells) xs ≡ map (λ b. b.cells) ys → map (λ b. b.life) xs ≡ map (λ b. b.life) ys → xs ≡ ys
 same_stores [] [] e f = refl
-same_stores [] (y ∷ ys) e f = let z : ◌≡◌ {A = ℕ} 0 1 = cc in absurd (omega arith)
-same_stores (x ∷ xs) [] e f = let z : ◌≡◌ {A = ℕ} 0 1 = cc in absurd (omega arith)
+same_stores [] (y ∷ ys) e f = cc
+same_stores (x ∷ xs) [] e f = cc
 same_stores {V} (x ∷ xs) (y ∷ ys) e f =
     let c : x.cells ≡ y.cells = cc in
     let l : x.life ≡ y.life = cc in

@@ -1,14 +1,16 @@
 -- How a proof follows a call: at each question, at each store operation, and at each table entry.
-use Rattle.std.proofs.Common.{◌≡◌, ℕ, zero, suc, ◌+◌, ◌<◌, ◌≤◌, Bool, true, false, cond, eqb, ltb, ◌⊎◌, List, [], ◌∷◌, length, get_or, set, is_some, Some, None, Ok, Err, Option, Result, sym, refl, ap, ◌∙◌, subst, inl, inr, arith}
+use Rattle.std.proofs.Common.{◌≡◌, ℕ, zero, suc, ◌+◌, ◌<◌, ◌≤◌, Bool, true, false, eqb, ltb, List, length, get_or, set, is_some, Some, None, Ok, Err, Option, Result, sym, refl, subst, ⊎_elim, arith}
 use Rattle.std.specs.List.{slice_get}
-use Rattle.std.proofs.lemmas.Bool.{ltb-true, eqb-true, eqb-false, cases_eq}
+use Rattle.std.specs.Option.{is_none}
+use Rattle.std.proofs.lemmas.Bool.{cond_both, ltb-true, eqb-true, eqb-false, cases_eq}
 use Rattle.std.proofs.lemmas.List.{get_or-set_same, get_or-set_other}
+use Rattle.std.proofs.lemmas.Option.{get_or_from_slice_get, slice_get_within, cond_some}
 use Rattle.store.specs.declared.life.Life.{Life}
 use Rattle.store.specs.Stores.{Stored, stored, granted, alive, spent, within, after, read_answer, write_answer, after_read, after_write}
 use Rattle.store.specs.declared.life.Fault.{Fault}
 use Rattle.store.specs.declared.life.Fault.TheVariants.{OutOfRange, NoLife}
-use Rattle.records.specs.Records.{Records, names, is_none, cell_of, journal_of, flushing, unsent_at}
-use Rattle.records.specs.Questions.{and_then, unless, found, present, holding, admitted, opening, beginning, committing, closing, first_from, all_sent}
+use Rattle.records.specs.Records.{Records, names, cell_of, journal_of, flushing, unsent_at}
+use Rattle.records.specs.Questions.{holding, admitted, opening, beginning, committing, closing, first_from}
 use Rattle.rules.specs.Site.{State, Outcome, outcome, next, ◌then◌, with_disk, with_marks, told, disk_read, disk_write, mark_read, mark_write}
 use Rattle.rules.specs.Book.{put}
 use Rattle.records.specs.declared.records.CellRecord.{CellRecord}
@@ -22,41 +24,21 @@ pub followed : {V X Y : Type 0} (P : Outcome V Y → Type 0) (s : State V) (r : 
 followed P s (Ok x) f bad go = go x refl
 followed P s (Err e) f bad go = bad e
 
-pub chosen : {X : Type 0} (P : X → Type 0) (b : Bool) (x y : X) → (b ≡ true → P x) → (b ≡ false → P y) → P (cond b x y)
-chosen P true x y f g = f refl
-chosen P false x y f g = g refl
-
-pub nth_found : {V : Type 0} (xs : List V) (i : ℕ) (v d : V) → slice_get xs i ≡ Some v → (get_or xs i d ≡ v) × (i < length xs)
-nth_found [] i v d e = let z : ◌≡◌ {A = ℕ} 0 1 = cc in absurd (omega arith)
-nth_found (x ∷ xs) zero v d e = (cc, omega arith)
-nth_found (x ∷ xs) (suc i) v d e = let h = nth_found xs i v d e in (h.0, omega arith)
-
 -- an operation that would answer x: refused, and the store is as before; or accepted, and it has other cells and another life
 tried : {X V : Type 0} (P : Stored V → Result X Fault → Type 0) (b : Stored V) (xs : List V) (o : Option X)
     → ((e : Fault) → P b (Err e)) → ((x : X) → o ≡ Some x → (l : Life) → P (stored xs l) (Ok x)) → P (after (granted b.life o) b xs) (granted b.life o)
 tried P b xs None bad go = bad OutOfRange
-tried {X} {V} P b xs (Some x) bad go = by_life (alive b.life)
-  where
-    by_life : (t : Bool) → P (after (cond {A = Result X Fault} t (Ok x) (Err NoLife)) b xs) (cond t (Ok x) (Err NoLife))
-    by_life true = go x refl (spent b.life)
-    by_life false = bad NoLife
+tried {X} P b xs (Some x) bad go = cond_both (alive b.life) _ _ (λ (r : Result X Fault). P (after r b xs) r) (λ _. go x refl (spent b.life)) (λ _. bad NoLife)
 
 pub store_read : {V : Type 0} (P : Stored V → Result V Fault → Type 0) (b : Stored V) (i : ℕ) (blank : V)
     → ((e : Fault) → P b (Err e)) → (i < length b.cells → (l : Life) → P (stored b.cells l) (Ok (get_or b.cells i blank))) → P (after_read b i) (read_answer b i)
 store_read {V} P b i blank bad go =
     tried P b b.cells (slice_get b.cells i) bad
-    (λ v e l. let h = nth_found b.cells i v blank e in subst (λ (w : V). P (stored b.cells l) (Ok w)) h.0 (go h.1 l))
-
-inside_found : {V : Type 0} (b : Stored V) (i : ℕ) (x : Unit {0}) → within (length b.cells) i ≡ Some x → i < length b.cells
-inside_found b i x e = go (ltb i (length b.cells)) refl e
-  where
-    go : (t : Bool) → ltb i (length b.cells) ≡ t → cond t (Some tt) None ≡ Some x → i < length b.cells
-    go true h q = ltb-true _ _ h
-    go false h q = let z : ◌≡◌ {A = ℕ} 0 1 = cc in absurd (omega arith)
+    (λ v e l. subst (λ (w : V). P (stored b.cells l) (Ok w)) (get_or_from_slice_get b.cells i v blank e) (go (slice_get_within b.cells i v e) l))
 
 pub store_write : {V : Type 0} (P : Stored V → Result (Unit {0}) Fault → Type 0) (b : Stored V) (i : ℕ) (v : V)
     → ((e : Fault) → P b (Err e)) → (i < length b.cells → (l : Life) → P (stored (set b.cells i v) l) (Ok tt)) → P (after_write b i v) (write_answer b i)
-store_write P b i v bad go = tried P b (set b.cells i v) (within (length b.cells) i) bad (λ x e l. go (inside_found b i x e) l)
+store_write P b i v bad go = tried P b (set b.cells i v) (within (length b.cells) i) bad (λ x e l. go (ltb-true _ _ (cond_some (ltb i (length b.cells)) tt x e).0) l)
 
 module _ {V Y : Type 0} (P : Outcome V Y → Type 0) (s : State V) where
   pub by_disk_read : (i : ℕ) (blank : V) (f : State V → V → Outcome V Y) → ((e : SiteFault) → P (outcome s (Err e)))
@@ -77,31 +59,20 @@ module _ {V Y : Type 0} (P : Outcome V Y → Type 0) (s : State V) where
 
 -- an entry of a changed table, and a cell of a changed list
 pub entry : {A : Type 0} (P : A → Type 0) (f : ℕ → A) (i : ℕ) (a : A) (j : ℕ) → (j ≡ i → P a) → ((j ≡ i → ⊥) → P (f j)) → P (put f i a j)
-entry P f i a j same other = go (eqb j i) refl
-  where
-    go : (t : Bool) → eqb j i ≡ t → P (cond t a (f j))
-    go true e = same (eqb-true j i e)
-    go false e = other (eqb-false j i e)
+entry P f i a j same other = cond_both (eqb j i) _ _ P (λ e. same (eqb-true j i e)) (λ e. other (eqb-false j i e))
 
 pub cell : {V : Type 0} (P : V → Type 0) (l : List V) (i : ℕ) (v : V) (j : ℕ) (d : V) → i < length l → (j ≡ i → P v) → ((j ≡ i → ⊥) → P (get_or l j d)) → P (get_or (set l i v) j d)
-cell P l i v j d h same other = go (cases_eq j i)
-  where
-    go : (j ≡ i) ⊎ (j ≡ i → ⊥) → P (get_or (set l i v) j d)
-    go (inl e) = subst (λ (n : ℕ). P (get_or (set l i v) n d)) (sym e) (subst P (sym (get_or-set_same l i v d h)) (same e))
-    go (inr n) = subst P (sym (get_or-set_other l i j v d n)) (other n)
+cell P l i v j d h same other =
+    ⊎_elim
+    (λ e. subst (λ (n : ℕ). P (get_or (set l i v) n d)) (sym e) (subst P (sym (get_or-set_same l i v d h)) (same e)))
+    (λ n. subst P (sym (get_or-set_other l i j v d n)) (other n))
+    (cases_eq j i)
 
 pub equal_or_not : (P : Type 0) (j i : ℕ) → (j ≡ i → P) → ((j ≡ i → ⊥) → P) → P
-equal_or_not P j i same other = go (cases_eq j i)
-  where
-    go : (j ≡ i) ⊎ (j ≡ i → ⊥) → P
-    go (inl e) = same e
-    go (inr n) = other n
+equal_or_not P j i same other = ⊎_elim same other (cases_eq j i)
 
 pub unnamed : (h : Option ℕ) → is_none h ≡ true → (c : ℕ) → names h c ≡ false
 unnamed h e c = grind arith
-
-pub unheld : (h : Option ℕ) → is_none h ≡ true → is_some h ≡ false
-unheld h e = grind arith
 
 -- only one client is named
 pub somebody : (h : Option ℕ) (c : ℕ) → names h c ≡ true → is_some h ≡ true
@@ -111,68 +82,29 @@ pub nobody_else : (h : Option ℕ) (c c' : ℕ) → names h c ≡ true → (c' �
 nobody_else h c c' e n = grind arith
 
 -- what an accepted question says
-pub went_on : {X Y : Type 0} (r : Result X SiteFault) (f : X → Result Y SiteFault) (y : Y) → and_then r f ≡ Ok y → (x : X) × (r ≡ Ok x) × (f x ≡ Ok y)
-went_on (Ok x) f y e = (x, refl, e)
-went_on (Err q) f y e = let z : ◌≡◌ {A = ℕ} 0 1 = cc in absurd (omega arith)
-
-pub was_yes : {X : Type 0} (b : Bool) (q : SiteFault) (r : Result X SiteFault) (x : X) → unless b q r ≡ Ok x → (b ≡ true) × (r ≡ Ok x)
-was_yes true q r x e = (refl, e)
-was_yes false q r x e = let z : ◌≡◌ {A = ℕ} 0 1 = cc in absurd (omega arith)
-
-pub was_found : (o : Option CellRecord) (r : CellRecord) → found o ≡ Ok r → o ≡ Some r
-was_found None r e = let z : ◌≡◌ {A = ℕ} 0 1 = cc in absurd (omega arith)
-was_found (Some x) r e = cc
-
-pub ok_same : {X : Type 0} (x y : X) → ◌≡◌ {A = Result X SiteFault} (Ok x) (Ok y) → x ≡ y
-ok_same x y e = cc
-
 pub holding_says : (t : Records) (k : ℕ) (x : Unit {0}) → holding t k ≡ Ok x → names t.holder k ≡ true
-holding_says t k x e = (was_yes _ _ _ _ (went_on (present t k) _ x e).2).0
+holding_says t k x e = grind arith
 
 pub admitted_says : (t : Records) (k i : ℕ) (r : CellRecord) → admitted t k i ≡ Ok r → (names t.holder k ≡ true) × (i < t.size) × (cell_of t k i ≡ Some r)
-admitted_says t k i r e =
-    let h = went_on (holding t k) _ r e in
-    let w = was_yes _ _ _ _ h.2 in
-    (holding_says t k h.0 h.1, ltb-true _ _ w.0, was_found _ r w.1)
+admitted_says t k i r e = grind (arith, ltb-true)
 
 pub opening_says : (t : Records) (k n : ℕ) → opening t k ≡ Ok n → (is_none t.holder ≡ true) × (n ≡ t.session + 1)
-opening_says t k n e =
-    let w = was_yes _ _ _ _ (went_on (present t k) _ n e).2 in
-    let w' = was_yes _ _ _ _ w.1 in
-    (w.0, sym (ok_same _ _ w'.1))
+opening_says t k n e = grind arith
 
 pub beginning_says : (t : Records) (k i : ℕ) (x : CellRecord × ℕ) → beginning t k i ≡ Ok x
     → (names t.holder k ≡ true) × (i < t.size) × (cell_of t k i ≡ Some x.0) × (is_none (journal_of t k) ≡ true) × (x.0.dirty ≡ true)
-beginning_says t k i x e =
-    let h = went_on (admitted t k i) _ x e in
-    let w = was_yes _ _ _ _ h.2 in
-    let w' = was_yes _ _ _ _ w.1 in
-    let w'' = was_yes _ _ _ _ w'.1 in
-    let q : h.0 ≡ x.0 = ap (λ (y : CellRecord × ℕ). y.0) (ok_same _ _ w''.1) in
-    let a = admitted_says t k i h.0 h.1 in
-    (a.0, a.1, a.2 ∙ ap Some q, w.0, sym (ap (λ (y : CellRecord). y.dirty) q) ∙ w'.0)
+beginning_says t k i x e = grind (arith, ltb-true)
 
 pub committing_says : (t : Records) (k i n : ℕ) (x : Unit {0}) → committing t k i n ≡ Ok x → (names t.holder k ≡ true) × (flushing t k i n ≡ true)
-committing_says t k i n x e =
-    let h = went_on (holding t k) _ x e in
-    (holding_says t k h.0 h.1, (was_yes _ _ _ _ h.2).0)
-
-was_none : (o : Option ℕ) (x : Unit {0}) → all_sent o ≡ Ok x → o ≡ None
-was_none None x e = refl
-was_none (Some i) x e = let z : ◌≡◌ {A = ℕ} 0 1 = cc in absurd (omega arith)
+committing_says t k i n x e = grind arith
 
 -- nothing was found among the numbers looked at
 none_found : (p : ℕ → Bool) (n i : ℕ) → first_from p n i ≡ None → (k : ℕ) → i ≤ k → k < i + n → p k ≡ false
 unfolding first_from
 none_found p zero i e k a z = absurd (omega arith)
-none_found p (suc n) i e k a z = go (p i) refl e (λ r a' z'. none_found p n (suc i) r k a' z')
-  where
-    go : (t : Bool) → p i ≡ t → cond t (Some i) (first_from p n (suc i)) ≡ None
-        → (first_from p n (suc i) ≡ None → suc i ≤ k → k < suc i + n → p k ≡ false) → p k ≡ false
-    go true q e more = let z : ◌≡◌ {A = ℕ} 0 1 = cc in absurd (omega arith)
-    go false q e more = equal_or_not (p k ≡ false) k i (λ r. cc) (λ r. more e (omega arith) (omega arith))
+none_found p (suc n) i e k a z = equal_or_not (p k ≡ false) k i (λ r. grind arith) (λ r. none_found p n (suc i) (grind arith) k (omega arith) (omega arith))
 
 pub closing_says : (t : Records) (k : ℕ) (x : Unit {0}) → closing t k ≡ Ok x → (names t.holder k ≡ true) × ((i : ℕ) → i < t.size → unsent_at t k i ≡ false)
 closing_says t k x e =
-    let h = went_on (holding t k) _ x e in
-    (holding_says t k h.0 h.1, λ i z. none_found (unsent_at t k) t.size 0 (was_none _ x h.2) i (omega arith) (omega arith))
+    let n : first_from (unsent_at t k) t.size 0 ≡ None = grind arith in
+    (grind arith, λ i z. none_found (unsent_at t k) t.size 0 n i (omega arith) (omega arith))

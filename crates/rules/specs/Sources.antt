@@ -1,5 +1,5 @@
 -- The numbers under which a read's sources are reported; 0 is none.
-use Rattle.std.specs.Prelude.{ℕ, Some, None, Option}
+use Rattle.std.specs.Prelude.{ℕ}
 use Rattle.rules.specs.declared.answer.Source.{Source}
 use Rattle.rules.specs.declared.answer.Source.TheVariants.{Cached, Checked, Fetched}
 

@@ -1,4 +1,4 @@
--- `consistent` cites the theorem.
+-- `consistent` cites the theorem: the search, given the lemmas, does not put `StaysConsistent` together.
 use Rattle.rules.proofs.consistent.Goals as goal
 use Rattle.rules.proofs.Theorem.{upholds, replies_alike, continues, continues_run}
 use Rattle.rules.proofs.Fits.{keeps_shape}
