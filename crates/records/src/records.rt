@@ -1,7 +1,8 @@
 // What a client's record holds.
 
 // What a client knows of a cell: absent, or kept with a mark (the session in which the server's cell was
-// last written); whether it is checked against the server in this session; whether it is dirty.
+// last written); whether it is checked against the server in this session; whether it is dirty. (Each changes for
+// itself: a cell that becomes absent stays checked.)
 #[derive(Clone, Copy, Default)]
 pub struct CellRecord {
     pub kept: Option<u32>,

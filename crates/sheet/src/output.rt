@@ -5,7 +5,8 @@ ghost use Rattle.sheet.specs.Output.{output_fits, output_bytes, refusal_output};
 use crate::columns::{Columns, NoRoom};
 use crate::fields::Refusal;
 
-// One line of output: step 4, answer 3, place 5, value 11 and source 2 columns, and a line feed.
+// One line of output: step 4, answer 3, place 5, value 11 and source 2 columns, and a line feed. (Its fields are the
+// numbers as they are printed.)
 #[derive(Clone, Copy)]
 pub struct OutputLine {
     pub step: u32,

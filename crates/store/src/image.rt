@@ -59,7 +59,8 @@ impl<'a> Store for Image<'a> {
     fn renew(&mut self, _n: u32) {}
 }
 
-// The 512 bytes from byte 512 * i on. (By `*` and not `copied`, which would copy them twice.)
+// The 512 bytes from byte 512 * i on. (As a row's, a function of the bytes. By `*` and not `copied`, which would copy
+// them twice.)
 #[tactic(auto, unfolding(crate::specs::Bytes::blocks))]
 fn get_sector(bytes: &[u8], i: usize) -> Result<[u8; 512], Fault>
     ensures { result ≡ read_answer (endless (blocks 512 bytes.now)) i }

@@ -59,8 +59,8 @@ impl<'a, T: Cell> Store for Row<'a, T> {
     fn renew(&mut self, _n: u32) {}
 }
 
-// The cell at i. (A function of the slice, as the one below: the row's methods hand it their slice. By `*` and not
-// `copied`, which would copy a sector twice.)
+// The cell at i. (A function of the slice, as the one below: by the rules the row's methods hand it their slice. By
+// `*` and not `copied`, which would copy a sector twice.)
 fn get_cell<T: Cell>(cells: &[T], i: usize) -> Result<T, Fault>
     ensures { result ≡ read_answer (endless cells.now) i }
 {

@@ -43,7 +43,7 @@ impl<D: Store, M: Store<Cell = u32>, B: Bank<Cell = D::Cell>> Site<D, M, B> {
         ensures does { outcome (site_state D.Store M.Store B.Bank self.new) result ≡ commit_taken D.Cell.Cell.empty (site_state D.Store M.Store B.Bank self.old) k slip.flush }
         ensures kept { site_rests D.Store M.Store B.Bank self.new ≡ site_rests D.Store M.Store B.Bank self.old }
     {
-        // no `map_err`, which would hide that the site changes on the way
+        // no `map_err`: the clause speaks of the site after the arm, and a closure would have to say what it makes of it
         match self.do_commit(slip) {
             Ok(()) => Ok(()),
             Err(Returned { slip, fault }) => {
@@ -53,7 +53,8 @@ impl<D: Store, M: Store<Cell = u32>, B: Bank<Cell = D::Cell>> Site<D, M, B> {
         }
     }
 
-    // Takes client k's slip up, and commits it.
+    // Takes client k's slip up, and commits it. (Apart from the one below: a function that took what differs as
+    // closures would have a `requires`.)
     fn commit_step(&mut self, k: u32) -> Done<D::Cell>
         ensures does { out (site_state D.Store M.Store B.Bank self.new) (as_reply result) ≡ called D.Cell.Cell.empty (site_state D.Store M.Store B.Bank self.old) (CommitStep k) }
         ensures kept { site_rests D.Store M.Store B.Bank self.new ≡ site_rests D.Store M.Store B.Bank self.old }
