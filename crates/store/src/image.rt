@@ -5,7 +5,7 @@ ghost use Rattle.store.specs.Stores.{endless, read_answer, write_answer, after_w
 ghost use Rattle.store.specs.Bytes.{blocks, spare};
 ghost use Rattle.store.specs.declared.life.Life.TheVariants.{Endless};
 
-use crate::cell::Cell;
+use crate::cell::{Cell, Sector};
 use crate::life::Fault;
 use crate::store::Store;
 
@@ -24,7 +24,7 @@ impl<'a> Image<'a> {
     }
 
     // By `&self`, so that the bytes are known to be as they were.
-    fn get(&self, i: usize) -> Result<[u8; 512], Fault>
+    fn get(&self, i: usize) -> Result<Sector, Fault>
         ensures { result ≡ read_answer (endless (blocks 512 self.now.bytes.now)) i }
     {
         get_sector(self.bytes, i)
@@ -32,7 +32,7 @@ impl<'a> Image<'a> {
 }
 
 impl<'a> Store for Image<'a> {
-    type Cell = [u8; 512];
+    type Cell = Sector;
 
     ghost cells = { λ s. blocks 512 s.bytes.now };
 
@@ -48,11 +48,11 @@ impl<'a> Store for Image<'a> {
         self.bytes.len() / 512
     }
 
-    fn read(&mut self, i: usize) -> Result<[u8; 512], Fault> {
+    fn read(&mut self, i: usize) -> Result<Sector, Fault> {
         self.get(i)
     }
 
-    fn write(&mut self, i: usize, v: [u8; 512]) -> Result<(), Fault> {
+    fn write(&mut self, i: usize, v: Sector) -> Result<(), Fault> {
         put_sector(self.bytes, i, v)
     }
 
@@ -62,7 +62,7 @@ impl<'a> Store for Image<'a> {
 // The 512 bytes from byte 512 * i on. (As a row's, a function of the bytes. By `*` and not `copied`, which would copy
 // them twice.)
 #[tactic(auto, unfolding(crate::specs::Bytes::blocks))]
-fn get_sector(bytes: &[u8], i: usize) -> Result<[u8; 512], Fault>
+fn get_sector(bytes: &[u8], i: usize) -> Result<Sector, Fault>
     ensures { result ≡ read_answer (endless (blocks 512 bytes.now)) i }
 {
     let (sectors, _) = bytes.as_chunks::<512>();
@@ -71,7 +71,7 @@ fn get_sector(bytes: &[u8], i: usize) -> Result<[u8; 512], Fault>
 
 // Puts v in their place.
 #[tactic(auto, using(crate::proofs::Blocks::put))]
-fn put_sector(bytes: &mut [u8], i: usize, v: [u8; 512]) -> Result<(), Fault>
+fn put_sector(bytes: &mut [u8], i: usize, v: Sector) -> Result<(), Fault>
     ensures answer { result ≡ write_answer (endless (blocks 512 bytes.old)) i }
     ensures after { endless (blocks 512 bytes.new) ≡ after_write (endless (blocks 512 bytes.old)) i v }
     ensures kept { spare 512 bytes.new ≡ spare 512 bytes.old }

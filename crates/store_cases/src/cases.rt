@@ -4,7 +4,7 @@ ghost use Rattle.store.specs.Bytes.{blocks, spare};
 ghost use Rattle.store.specs.Stores.{stored, least, write_answer, after_write};
 ghost use Rattle.store.specs.declared.life.Fault.TheVariants.{OutOfRange, NoLife};
 
-use store::{Cell, Fault, Fuse, Image, Row, Store, Window};
+use store::{Cell, Fault, Fuse, Image, Row, Sector, Store, Window};
 
 // A fuse of 1 on a row: the write is accepted, and then the read is refused.
 pub fn burnt_out() -> Result<u32, Fault>
@@ -92,7 +92,7 @@ pub fn stamp(
     size: usize,
     life: u32,
     i: usize,
-    v: [u8; 512],
+    v: Sector,
 ) -> Result<(), Fault>
     ensures before { take first (blocks 512 bytes.new) ≡ take first (blocks 512 bytes.old) }
     ensures beyond { drop (first + size) (blocks 512 bytes.new) ≡ drop (first + size) (blocks 512 bytes.old) }
