@@ -22,7 +22,8 @@ fn print_step(out: &mut impl Write, line: usize, step: Step) -> io::Result<()> {
     )
 }
 
-// Prints a line in columns, and nothing where a number has too many digits for them.
+// Prints a line in columns, and nothing where a number has too many digits for them. (Beside the like of it in
+// `script`: that one puts the line into a vector, by a clause.)
 fn print_output(out: &mut impl Write, line: OutputLine) -> io::Result<()> {
     let mut bytes = [0; 26];
     if line.put(&mut bytes).is_ok() {
