@@ -40,7 +40,7 @@ pub block_within : (w : ℕ) (bs : List ℕ) (i : ℕ) → i < length bs / w →
 block_within w bs i h = omega (arith, block_end w i (length bs / w) h, mul-div-le (length bs) w)
 
 module _ (w : ℕ) (bs : List ℕ) (i : ℕ) (v : List ℕ) (h : i < length bs / w) (whole : length v ≡ w) where
-  length_put : length (put_mid (w * i) w bs v) ≡ length bs
+  pub length_put : length (put_mid (w * i) w bs v) ≡ length bs
   length_put = let e = block_within w bs i h in search (rules, overwrites)
 
   pub put_spare : spare w (put_mid (w * i) w bs v) ≡ spare w bs
