@@ -42,8 +42,9 @@ impl ClientRecord {
     pub(super) fn uncheck(&mut self)
         ensures { self.new ≡ unchecked_client self.old }
     {
-        for cell in &mut self.cells {
-            cell.checked = false;
+        // by index: a loop over the cells up to one of them gets no proof, right or wrong
+        for i in 0..self.cells.len() {
+            self.cells[i].checked = false;
         }
     }
 
