@@ -40,9 +40,12 @@ impl OutputLine {
         ensures fits { is_ok result ≡ nat_le 26 (length out.old) && output_fits self.now }
         ensures bytes { out.new ≡ (if is_ok result then output_bytes self.now ++ drop 26 out.old else out.old) }
     {
+        if out.len() < 26 {
+            return Err(NoRoom);
+        }
         let mut line = [0; 26];
         self.write(&mut line)?;
-        *out.first_chunk_mut().ok_or(NoRoom)? = line;
+        out[0..26].copy_from_slice(&line);
         Ok(())
     }
 
