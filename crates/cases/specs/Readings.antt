@@ -1,5 +1,5 @@
 -- How the rules are read where a reader might miss it, as one list: what the definitions show, and what is said of it.
-use Rattle.std.specs.Prelude.{◌≡◌, ℕ, List, [], ◌∷◌, map, replicate, None, Ok, Err, Result}
+use Rattle.std.specs.Prelude.{◌≡◌, ℕ, List, [], ◌∷◌, map, replicate, Ok, Err, Result}
 use Rattle.store.specs.Stores.{endless}
 use Rattle.records.specs.Faults.{says}
 use Rattle.rules.specs.Site.{State}
@@ -190,7 +190,7 @@ abbrev open_step : Step
 open_step = record { call = 1; client = 1; cell = 0; first = 0; second = 0 }
 
 abbrev three_steps : ℕ → Rows ℕ
-three_steps n = record { steps = open_step ∷ read_step 3 ∷ read_step 8 ∷ []; given = replicate 3 0; answers = replicate 3 (accepted 0 0 None); got = replicate n 9 }
+three_steps n = record { steps = open_step ∷ read_step 3 ∷ read_step 8 ∷ []; given = replicate 3 0; answers = replicate 3 (accepted 0 0 0); got = replicate n 9 }
 
 abbrev run_number : Result (Unit {0}) SiteFault → ℕ
 run_number (Ok x) = 0

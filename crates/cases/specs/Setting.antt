@@ -1,13 +1,12 @@
 -- The site of the worked cases, and how a case is played on it.
-use Rattle.std.specs.Prelude.{ℕ, suc, Bool, true, false, List, [], ◌∷◌, map, Some, None, Option, slice_index, slice_index_or}
-use Rattle.std.specs.Option.{unwrap_or, option_map}
+use Rattle.std.specs.Prelude.{ℕ, suc, Bool, true, false, cond, List, [], ◌∷◌, map, Some, None, Option, ◌==◌, slice_index, slice_index_or}
+use Rattle.std.specs.Option.{unwrap_or}
 use Rattle.store.specs.declared.life.Life.{Life}
 use Rattle.store.specs.declared.life.Life.TheVariants.{Endless, Left}
 use Rattle.records.specs.Clients.{asked}
 use Rattle.records.specs.Records.{record_of}
 use Rattle.rules.specs.Site.{State}
 use Rattle.rules.specs.Replies.{Call, Reply, called, accepted}
-use Rattle.rules.specs.Sources.{source_number}
 use Rattle.rules.specs.Runs.{Running, ran}
 use Rattle.rules.specs.History.{shown}
 use Rattle.script.specs.Printed.{site}
@@ -30,16 +29,16 @@ pub data Moment : Type 0 where
 
 -- the answer's number, place, value (the cell got, after an accepted read) and source
 abbrev line : Reply ℕ → List ℕ
-line r = r.answer.number ∷ r.answer.place ∷ unwrap_or (option_map (λ _. unwrap_or r.got 0) r.answer.source) r.answer.value ∷ unwrap_or (option_map source_number r.answer.source) 0 ∷ []
+line r = r.answer.number ∷ r.answer.place ∷ cond (r.answer.source == 0) r.answer.value (unwrap_or r.got 0) ∷ r.answer.source ∷ []
 
 -- a run of one step; a write's cell is its first number
 abbrev one_step : State ℕ → ℕ → ℕ → ℕ → ℕ → ℕ → Running ℕ
 one_step s call client cell first second =
     ran (called 0) s
-    (record { steps = record { call = call; client = client; cell = cell; first = first; second = second } ∷ []; given = first ∷ []; answers = accepted 0 0 None ∷ []; got = 0 ∷ [] })
+    (record { steps = record { call = call; client = client; cell = cell; first = first; second = second } ∷ []; given = first ∷ []; answers = accepted 0 0 0 ∷ []; got = 0 ∷ [] })
 
 abbrev step_line : Running ℕ → List ℕ
-step_line w = line (shown (slice_index_or w.answers 0 (accepted 0 0 None)) (slice_index w.got 0))
+step_line w = line (shown (slice_index_or w.answers 0 (accepted 0 0 0)) (slice_index w.got 0))
 
 abbrev sign : Bool → ℕ
 sign true = 1

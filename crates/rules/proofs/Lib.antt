@@ -7,6 +7,7 @@ pub mod Starts
 pub mod Theorem
 pub mod Shapes
 pub mod Refusals
+pub mod Sizes
 pub mod Fits
 pub mod Carried
 pub mod Alike

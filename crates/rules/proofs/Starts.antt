@@ -40,7 +40,7 @@ new_keeps : {V : Type 0} (n x : ℕ) (d l j : V) → Keeps false false n x d d s
 new_keeps n x d l j = grind arith
 
 -- a new client's record
-replicated : (x : ClientRecord) (n c : ℕ) (P : Option ClientRecord → Type 0) → P None → P (Some x) → P (asked (λ y. y) (replicate n x) c)
+pub replicated : (x : ClientRecord) (n c : ℕ) (P : Option ClientRecord → Type 0) → P None → P (Some x) → P (asked (λ y. y) (replicate n x) c)
 replicated x zero c P a b = a
 replicated x (suc n) zero P a b = a
 replicated x (suc n) (suc zero) P a b = b

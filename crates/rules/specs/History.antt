@@ -1,5 +1,5 @@
 -- What is done to a site, and the log of it: each call with its reply. `perform` is what a call does; the rules' own is `called`.
-use Rattle.std.specs.Prelude.{List, [], ◌∷◌, ◌++◌, None, option_map}
+use Rattle.std.specs.Prelude.{cond, List, [], ◌∷◌, ◌++◌, Some, None, ◌==◌}
 use Rattle.rules.specs.Site.{State}
 use Rattle.rules.specs.Replies.{Call, Reply, Out}
 use Rattle.rules.specs.Runs.{Rows, run_calls, ran}
@@ -22,7 +22,7 @@ module _ {V : Type 0} where
 
   -- the reply that a run's rows show: a cell got belongs to an accepted read, which has a source; slips stay with the site
   abbrev pub shown : Answer → V → Reply V
-  shown a g = record { answer = a; got = option_map (λ _. g) a.source; slip = None }
+  shown a g = record { answer = a; got = cond (a.source == 0) None (Some g); slip = None }
 
   -- the log of a run, from the rows that it left
   abbrev pub row_log : List (Call V) → List Answer → List V → List (Entry V)

@@ -8,6 +8,7 @@ use Rattle.rules.specs.Calls.{open_call, read_call, write_call, begin_call, comm
 use Rattle.records.specs.declared.records.Flush.{Flush}
 use Rattle.records.specs.declared.fault.SiteFault.{SiteFault}
 use Rattle.records.specs.declared.fault.SiteFault.TheVariants.{NoCall}
+use Rattle.rules.specs.Sources.{source_number}
 use Rattle.rules.specs.declared.answer.Answer.{Answer}
 use Rattle.rules.specs.declared.answer.Source.{Source}
 use Rattle.rules.specs.declared.answer.Stopped.{Stopped}
@@ -49,41 +50,41 @@ abbrev pub plain : {V : Type 0} → Answer → Reply V
 plain a = record { answer = a; got = None; slip = None }
 
 -- accepted, about the cell `place`
-abbrev pub accepted : ℕ → ℕ → Option Source → Answer
+abbrev pub accepted : ℕ → ℕ → ℕ → Answer
 accepted place value source = record { number = 0; place = place; value = value; source = source; fault = None }
 
 -- refused, about the cell `place` unless the refusal names another
 abbrev pub refused : ℕ → ℕ → SiteFault → Answer
-refused place value e = record { number = (says e).number; place = unwrap_or (says e).place place; value = value; source = None; fault = (says e).held }
+refused place value e = record { number = (says e).number; place = unwrap_or (says e).place place; value = value; source = 0; fault = (says e).held }
 
 -- the value is the session
 abbrev pub open_reply : {V : Type 0} → Result ℕ SiteFault → Reply V
-open_reply (Ok n) = plain (accepted 0 n None)
+open_reply (Ok n) = plain (accepted 0 n 0)
 open_reply (Err e) = plain (refused 0 0 e)
 
 -- the cell got, with its source
 abbrev pub read_reply : {V : Type 0} → ℕ → Result (V × Source) SiteFault → Reply V
-read_reply i (Ok x) = record { answer = accepted i 0 (Some x.1); got = Some x.0; slip = None }
+read_reply i (Ok x) = record { answer = accepted i 0 (source_number x.1); got = Some x.0; slip = None }
 read_reply i (Err e) = plain (refused i 0 e)
 
 -- the value is the turn
 abbrev pub begin_reply : {V : Type 0} → ℕ → Result Flush SiteFault → Reply V
-begin_reply i (Ok n) = record { answer = accepted i n.turn None; got = None; slip = Some n }
+begin_reply i (Ok n) = record { answer = accepted i n.turn 0; got = None; slip = Some n }
 begin_reply i (Err e) = plain (refused i 0 e)
 
 -- a run keeps the slip
 abbrev pub noted_reply : {V : Type 0} → ℕ → Result Flush SiteFault → Reply V
-noted_reply i (Ok n) = plain (accepted i n.turn None)
+noted_reply i (Ok n) = plain (accepted i n.turn 0)
 noted_reply i (Err e) = plain (refused i 0 e)
 
 -- a call about cell i, or about none (0)
 abbrev pub plain_reply : {V : Type 0} → ℕ → Result (Unit {0}) SiteFault → Reply V
-plain_reply i (Ok x) = plain (accepted i 0 None)
+plain_reply i (Ok x) = plain (accepted i 0 0)
 plain_reply i (Err e) = plain (refused i 0 e)
 
 -- the value is the count of cells made absent, also where it stopped
 abbrev pub swept_reply : {V : Type 0} → Result ℕ Stopped → Reply V
-swept_reply (Ok n) = plain (accepted 0 n None)
+swept_reply (Ok n) = plain (accepted 0 n 0)
 swept_reply (Err x) = plain (refused x.place x.value x.fault)
 
 -- a call's outcome with its reply

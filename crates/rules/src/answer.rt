@@ -24,15 +24,16 @@ impl From<Source> for u8 {
     }
 }
 
-// The answer to a call: 0 or the refusal's number; the cell that it is about; a session, a turn or a count;
-// at an accepted read where its cell came from; a store's fault. (A row of a run, with the fields that the rules
-// name: what a refusal says of itself is taken apart when the row is filled.)
+// The answer to a call: 0 or the refusal's number; the cell that it is about; a session, a turn or a count; the
+// number of a read's source, 0 but at an accepted read; a store's fault. (A row of a run, with the fields that the
+// rules name: what a refusal says of itself is taken apart when the row is filled. The source is its number, and no
+// `Option` of the enum, since a row that is lent or printed may hold any.)
 #[derive(Clone, Copy, Default)]
 pub struct Answer {
     pub number: u8,
     pub place: u32,
     pub value: u32,
-    pub source: Option<Source>,
+    pub source: u8,
     pub fault: Option<StoreFault>,
 }
 

@@ -17,7 +17,7 @@ module _ (sheet : List ℕ) (i place : ℕ) (a : LineAnswer) (xs : List Step) (h
   line_first = let n : 64 - i ≡ suc (64 - (i + 1)) = omega arith in rw (n, e) refl
 
   -- it ends the sheet
-  stops : (last : Option OutputLine) → ((rest : Scripted) → more a rest ≡ scripted [] last) → scripted xs last ≡ onto xs (read_from (64 - i) sheet place)
+  pub stops : (last : Option OutputLine) → ((rest : Scripted) → more a rest ≡ scripted [] last) → scripted xs last ≡ onto xs (read_from (64 - i) sheet place)
   stops last m =
       ap (λ (ys : List Step). scripted ys last) (sym (append-nil xs))
       ∙ ap (onto xs) (sym (line_first ∙ m (read_from (64 - (i + 1)) sheet (place_after a place))))

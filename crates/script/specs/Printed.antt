@@ -1,5 +1,5 @@
 -- What is printed for a sheet: its steps are run on the sheet's own site, and each answer is printed.
-use Rattle.std.specs.Prelude.{ℕ, List, [], ◌∷◌, ◌++◌, length, replicate, None}
+use Rattle.std.specs.Prelude.{ℕ, List, [], ◌∷◌, ◌++◌, length, replicate}
 use Rattle.store.specs.Stores.{Stored, stored, least}
 use Rattle.store.specs.declared.life.Life.TheVariants.{Endless}
 use Rattle.rules.specs.Site.{State}
@@ -25,7 +25,7 @@ abbrev pub rows_of : List Step → Rows ℕ
 rows_of steps = record {
   steps = steps;
   given = given_by steps;
-  answers = replicate (length steps) (accepted 0 0 None);
+  answers = replicate (length steps) (accepted 0 0 0);
   got = replicate (length steps) 0;
 }
 

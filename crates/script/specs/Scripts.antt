@@ -1,14 +1,12 @@
 -- From a sheet's bytes to steps, and from answers to the printed bytes.
-use Rattle.std.specs.Prelude.{ℕ, zero, suc, ◌+◌, min, cond, List, [], ◌∷◌, ◌++◌, map, Some, None, Option}
+use Rattle.std.specs.Prelude.{ℕ, zero, suc, ◌+◌, min, cond, List, [], ◌∷◌, ◌++◌, map, Some, None, Option, ◌==◌}
 use Rattle.sheet.specs.Sheet.{LineAnswer, end, fields, refused, line_of, place_after}
 use Rattle.sheet.specs.Steps.{seen_number}
 use Rattle.sheet.specs.Output.{output_bytes, output_fits}
 use Rattle.sheet.specs.Text.{most}
 use Rattle.sheet.specs.declared.output.OutputLine.{OutputLine}
 use Rattle.rules.specs.declared.step.Step.{Step}
-use Rattle.std.specs.Option.{unwrap_or, option_map}
 use Rattle.rules.specs.declared.answer.Answer.{Answer}
-use Rattle.rules.specs.Sources.{source_number}
 
 -- the steps read, and the output line of the line that was refused and ends them, if one was
 pub record Scripted : Type 0 where
@@ -43,7 +41,7 @@ line_bytes l = cond (output_fits l) (output_bytes l) []
 
 -- an answer's line; the value is the cell got, after an accepted read
 abbrev pub answer_line : ℕ → Answer → ℕ → OutputLine
-answer_line n a g = output n a.number a.place (unwrap_or (option_map (λ _. g) a.source) a.value) (unwrap_or (option_map source_number a.source) 0)
+answer_line n a g = output n a.number a.place (cond (a.source == 0) a.value g) a.source
 
 -- the answers of the steps after the first n; steps are counted from 1, up to the largest number
 unfoldable pub answered : ℕ → List Answer → List ℕ → List ℕ

@@ -30,16 +30,16 @@ fn step_number(i: usize) -> u32
 fn answer_line(step: u32, answer: Answer, got: u32) -> OutputLine
     ensures { result ≡ answer_line step answer got }
 {
-    let (value, source) = match answer.source {
-        Some(source) => (got, u32::from(u8::from(source))),
-        None => (answer.value, 0),
-    };
     OutputLine {
         step,
         answer: u32::from(answer.number),
         place: answer.place,
-        value,
-        source,
+        value: if answer.source == 0 {
+            answer.value
+        } else {
+            got
+        },
+        source: u32::from(answer.source),
     }
 }
 

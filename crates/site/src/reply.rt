@@ -15,7 +15,7 @@ pub(crate) struct Done<C> {
 }
 
 // Accepted, about the cell `place`.
-fn accepted(place: u32, value: u32, source: Option<Source>) -> Answer
+fn accepted(place: u32, value: u32, source: u8) -> Answer
     ensures { result ≡ accepted place value source }
 {
     Answer {
@@ -35,7 +35,7 @@ fn refused(place: u32, value: u32, fault: SiteFault) -> Answer
         number: fault.into(),
         place: fault.place().unwrap_or(place),
         value,
-        source: None,
+        source: 0,
         fault: fault.held(),
     }
 }
@@ -61,7 +61,7 @@ pub(crate) fn open_reply<C>(r: Result<u32, SiteFault>) -> Done<C>
     ensures { as_reply result ≡ open_reply r }
 {
     match r {
-        Ok(session) => plain(accepted(0, session, None)),
+        Ok(session) => plain(accepted(0, session, 0)),
         Err(fault) => plain(refused(0, 0, fault)),
     }
 }
@@ -72,7 +72,7 @@ pub(crate) fn read_reply<C>(i: u32, r: Result<(C, Source), SiteFault>) -> Done<C
 {
     match r {
         Ok((v, source)) => Done {
-            answer: accepted(i, 0, Some(source)),
+            answer: accepted(i, 0, source.into()),
             got: Some(v),
         },
         Err(fault) => plain(refused(i, 0, fault)),
@@ -84,7 +84,7 @@ pub(crate) fn noted_reply<C>(i: u32, r: Result<Flush, SiteFault>) -> Done<C>
     ensures { as_reply result ≡ noted_reply i r }
 {
     match r {
-        Ok(flush) => plain(accepted(i, flush.turn, None)),
+        Ok(flush) => plain(accepted(i, flush.turn, 0)),
         Err(fault) => plain(refused(i, 0, fault)),
     }
 }
@@ -94,7 +94,7 @@ pub(crate) fn plain_reply<C>(i: u32, r: Result<(), SiteFault>) -> Done<C>
     ensures { as_reply result ≡ plain_reply i r }
 {
     match r {
-        Ok(()) => plain(accepted(i, 0, None)),
+        Ok(()) => plain(accepted(i, 0, 0)),
         Err(fault) => plain(refused(i, 0, fault)),
     }
 }
@@ -104,7 +104,7 @@ pub(crate) fn swept_reply<C>(r: Result<u32, Stopped>) -> Done<C>
     ensures { as_reply result ≡ swept_reply r }
 {
     match r {
-        Ok(count) => plain(accepted(0, count, None)),
+        Ok(count) => plain(accepted(0, count, 0)),
         Err(stopped) => plain(refused(stopped.place, stopped.value, stopped.fault)),
     }
 }
