@@ -136,6 +136,7 @@ impl<D: Store, M: Store<Cell = u32>, B: Bank<Cell = D::Cell>> Calls for Site<D, 
     }
 
     #[tactic(auto, using(rules::proofs::Carried::write_carried), unfolding(crate::specs::Promises::write_does))]
+    #[inline]
     fn write(&mut self, k: u32, i: u32, v: D::Cell) -> Result<(), SiteFault> {
         self.do_write(k, i, v)
     }
