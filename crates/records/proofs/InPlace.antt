@@ -1,10 +1,18 @@
--- Changes of a client's record, in place.
+-- Changes of a client's record, in place, and in several steps.
 use Rattle.std.proofs.Common.{◌≡◌, ℕ, ◌+◌, ◌<◌, ◌≤◌, true, List, ◌++◌, map, length, get_or, take, drop, set, Some, None, Option, sym, refl, ap, ◌∙◌, arith}
 use Rattle.std.proofs.lemmas.List.Edits.{map_over_more}
 use Rattle.std.proofs.lemmas.List.{map-set, get_or_default, length-append, length-map, length-take-le, length-drop, append-nil, take_all, drop_all}
 use Rattle.records.specs.Cells.{new_cell, unchecked_cell, dirtied}
-use Rattle.records.specs.Records.{soiled, revived}
+use Rattle.records.specs.Clients.{changed}
+use Rattle.records.specs.Records.{Records, with_clients, soiled, revived}
 use Rattle.records.specs.declared.records.CellRecord.{CellRecord}
+use Rattle.records.specs.declared.records.ClientRecord.{ClientRecord}
+use Rattle.records.proofs.Told.{changed_twice}
+
+-- one change of a client's record after another
+pub twice : (f g : ClientRecord → ClientRecord) (t u v : Records) (k : ℕ) → u ≡ with_clients t (changed f t.clients k) → v ≡ with_clients u (changed g u.clients k) → v ≡ with_clients t (changed (λ c. g (f c)) t.clients k)
+twice f g t u v k a b =
+    b ∙ ap (λ (w : Records). with_clients w (changed g w.clients k)) a ∙ ap (with_clients t) (changed_twice f g t.clients k)
 
 -- the first i cells unchecked
 unfoldable pub half : List CellRecord → ℕ → List CellRecord

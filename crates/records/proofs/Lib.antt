@@ -1,3 +1,4 @@
 mod Told
 pub mod Tables
 pub mod InPlace
+mod Restarts

@@ -48,3 +48,23 @@ module _ (cs : List ClientRecord) (k : ℕ) where
 
   pub changed_in : (f : ClientRecord → ClientRecord) (p : ℕ) (d : ClientRecord) → Stands cs k (Some p) → set cs p (f (get_or cs p d)) ≡ changed f cs k
   changed_in f p d s = sym (ap (changed f cs) (s.0 ∙ add-one p) ∙ changed_at f cs p d)
+
+-- one change after another
+pub changed_twice : {X : Type 0} (f g : X → X) (xs : List X) (k : ℕ) → changed g (changed f xs k) k ≡ changed (λ x. g (f x)) xs k
+changed_twice f g [] k = refl
+changed_twice f g (x ∷ xs) zero = refl
+changed_twice f g (x ∷ xs) (suc zero) = refl
+changed_twice f g (x ∷ xs) (suc (suc k)) = ap (λ ys. x ∷ ys) (changed_twice f g xs (suc k))
+
+-- two changes that are the same on the entry that is there
+pub changed_same : {X Y : Type 0} (a : X → Y) (y : Y) (f g : X → X) → ((x : X) → a x ≡ y → f x ≡ g x) → (xs : List X) (k : ℕ) → ((z : Y) → asked a xs k ≡ Some z → z ≡ y) → changed f xs k ≡ changed g xs k
+changed_same a y f g h [] k j = refl
+changed_same a y f g h (x ∷ xs) zero j = refl
+changed_same a y f g h (x ∷ xs) (suc zero) j = ap (λ z. z ∷ xs) (h x (j (a x) refl))
+changed_same a y f g h (x ∷ xs) (suc (suc k)) j = ap (λ ys. x ∷ ys) (changed_same a y f g h xs (suc k) j)
+
+pub changed_nothing : {X : Type 0} (xs : List X) (k : ℕ) → changed (λ x. x) xs k ≡ xs
+changed_nothing [] k = refl
+changed_nothing (x ∷ xs) zero = refl
+changed_nothing (x ∷ xs) (suc zero) = refl
+changed_nothing (x ∷ xs) (suc (suc k)) = ap (λ ys. x ∷ ys) (changed_nothing xs (suc k))

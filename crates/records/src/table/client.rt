@@ -42,7 +42,8 @@ impl ClientRecord {
     pub(super) fn uncheck(&mut self)
         ensures { self.new ≡ unchecked_client self.old }
     {
-        // by index: a loop over the cells up to one of them gets no proof, right or wrong
+        // by index, so that an edit that leaves out the last cell is refused for that: a loop over some of the cells,
+        // `&mut self.cells[0..n]`, gets no proof, right or wrong
         for i in 0..self.cells.len() {
             self.cells[i].checked = false;
         }
