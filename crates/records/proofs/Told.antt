@@ -2,7 +2,6 @@
 use Rattle.std.proofs.Common.{◌≡◌, ℕ, zero, suc, ◌<◌, List, [], ◌∷◌, length, get_or, set, Some, None, sym, refl, ap, ◌∙◌, ⊎_elim, add-one, arith}
 use Rattle.records.specs.Clients.{asked, changed}
 use Rattle.records.specs.Shape.{Stands}
-use Rattle.records.specs.declared.records.ClientRecord.{ClientRecord}
 
 asked_suc : {X Y : Type 0} (f : X → Y) (xs : List X) (p : ℕ) (d : X) → p < length xs → asked f xs (suc p) ≡ Some (f (get_or xs p d))
 asked_suc f [] p d h = absurd (omega arith)
@@ -34,20 +33,20 @@ changed_past f (x ∷ xs) zero h = absurd (omega arith)
 changed_past f (x ∷ xs) (suc zero) h = absurd (omega arith)
 changed_past f (x ∷ xs) (suc (suc k)) h = ap (λ ys. x ∷ ys) (changed_past f xs (suc k) (omega arith))
 
-module _ (cs : List ClientRecord) (k : ℕ) where
+module _ {X : Type 0} (xs : List X) (k : ℕ) where
   -- a number outside the list
-  pub asked_out : {Y : Type 0} (f : ClientRecord → Y) → Stands cs k None → None ≡ asked f cs k
-  asked_out f s = sym (⊎_elim (λ (z : k ≡ 0). ap (asked f cs) z ∙ asked_none f cs) (λ (h : length cs < k). asked_past f cs k h) s)
+  pub asked_out : {Y : Type 0} (f : X → Y) → Stands xs k None → None ≡ asked f xs k
+  asked_out f s = sym (⊎_elim (λ (z : k ≡ 0). ap (asked f xs) z ∙ asked_none f xs) (λ (h : length xs < k). asked_past f xs k h) s)
 
-  pub changed_out : (f : ClientRecord → ClientRecord) → Stands cs k None → changed f cs k ≡ cs
-  changed_out f s = ⊎_elim (λ (z : k ≡ 0). ap (changed f cs) z ∙ changed_none f cs) (λ (h : length cs < k). changed_past f cs k h) s
+  pub changed_out : (f : X → X) → Stands xs k None → changed f xs k ≡ xs
+  changed_out f s = ⊎_elim (λ (z : k ≡ 0). ap (changed f xs) z ∙ changed_none f xs) (λ (h : length xs < k). changed_past f xs k h) s
 
   -- a number with a place in it
-  pub asked_in : {Y : Type 0} (f : ClientRecord → Y) (p : ℕ) (d : ClientRecord) → Stands cs k (Some p) → Some (f (get_or cs p d)) ≡ asked f cs k
-  asked_in f p d s = sym (ap (asked f cs) (s.0 ∙ add-one p) ∙ asked_suc f cs p d s.1)
+  pub asked_in : {Y : Type 0} (f : X → Y) (p : ℕ) (d : X) → Stands xs k (Some p) → Some (f (get_or xs p d)) ≡ asked f xs k
+  asked_in f p d s = sym (ap (asked f xs) (s.0 ∙ add-one p) ∙ asked_suc f xs p d s.1)
 
-  pub changed_in : (f : ClientRecord → ClientRecord) (p : ℕ) (d : ClientRecord) → Stands cs k (Some p) → set cs p (f (get_or cs p d)) ≡ changed f cs k
-  changed_in f p d s = sym (ap (changed f cs) (s.0 ∙ add-one p) ∙ changed_at f cs p d)
+  pub changed_in : (f : X → X) (p : ℕ) (d : X) → Stands xs k (Some p) → set xs p (f (get_or xs p d)) ≡ changed f xs k
+  changed_in f p d s = sym (ap (changed f xs) (s.0 ∙ add-one p) ∙ changed_at f xs p d)
 
 -- one change after another
 pub changed_twice : {X : Type 0} (f g : X → X) (xs : List X) (k : ℕ) → changed g (changed f xs k) k ≡ changed (λ x. g (f x)) xs k

@@ -14,7 +14,7 @@ pub record FixedSize (cs : List ClientRecord) : Type 0 where
   pub eight : length cs ≡ 8
   pub wide : Wide cs
 
--- where client k's record stands in the list: at the place before its number, if the list goes that far
-abbrev pub Stands : List ClientRecord → ℕ → Option ℕ → Type 0
-Stands cs k None = (k ≡ 0) ⊎ (length cs < k)
-Stands cs k (Some p) = (k ≡ p + 1) × (p < length cs)
+-- where client k's entry stands in the list: at the place before its number, if the list goes that far
+abbrev pub Stands : {X : Type 0} → List X → ℕ → Option ℕ → Type 0
+Stands xs k None = (k ≡ 0) ⊎ (length xs < k)
+Stands xs k (Some p) = (k ≡ p + 1) × (p < length xs)
