@@ -1,17 +1,90 @@
 -- Texts and numbers put at the end of their columns.
-use Rattle.std.proofs.Common.{◌≡◌, ℕ, ◌+◌, ◌-◌, ◌<◌, ◌≤◌, Bool, true, ◌&&◌, List, [], ◌∷◌, ◌++◌, length, take, drop, set, replicate, decimal, sym, ap, ◌∙◌, append_assoc, arith}
-use Rattle.std.proofs.lemmas.List.{length-replicate, length-drop, length-append, length-take-le, length-set, take_at, take_all, take_more_set}
-use Rattle.sheet.specs.Columns.{columns_for, fits_columns, with_columns}
-use Rattle.sheet.specs.Output.{output_bytes}
+use Rattle.std.proofs.Common.{◌≡◌, ℕ, ◌+◌, ◌-◌, ◌<◌, ◌≤◌, Bool, true, false, cond, ◌&&◌, leb, List, [], ◌∷◌, ◌++◌, length, take, drop, set, replicate, decimal, sym, refl, ap, ◌∙◌, subst, append_assoc, arith}
+use borrow.Rule.Slice.PartMut.{put_mid, post_of}
+use Rattle.std.proofs.lemmas.List.{length-replicate, length-drop, length-append, length-take-le, length-set, take_at, take_all, drop-drop, drop_all, append-nil, take-append-drop, take_more_set}
+use Rattle.std.proofs.lemmas.Bool.{le-leb}
+use Rattle.sheet.specs.Columns.{right_justified, columns_for, fits_columns, with_columns}
+use Rattle.sheet.specs.Output.{output_fits, output_bytes}
 use Rattle.sheet.specs.declared.output.OutputLine.{OutputLine}
+
+-- blanks put over the front, and then the text over the rest
+pub put_right : (out text front last back : List ℕ) → length text ≤ length out
+    → front ≡ replicate (length (take (length out - length text - 0) out)) 32 → last ≡ text
+    → put_mid (length out - length text) (length (front ++ back) - (length out - length text)) (front ++ back) last ≡ right_justified (length out) text
+put_right out text front last back fits filled copied =
+    let b : ℕ = length out - length text in
+    let zs : List ℕ = front ++ back in
+    let whole : b - 0 ≡ b = omega arith in
+    let blank : front ≡ replicate b 32 = filled ∙ ap (λ k. replicate k 32) (ap (λ k. length (take k out)) whole ∙ length-take-le b out (omega arith)) in
+    let long : length front ≡ b = ap length blank ∙ length-replicate {A = ℕ} b 32 in
+    let none : post_of b (length zs - b) zs ≡ [] = drop_all (length zs - b) (drop b zs) (omega (arith, length-drop b zs)) in
+    ap (λ l. l ++ (last ++ post_of b (length zs - b) zs)) (take_at front back b long ∙ blank)
+    ∙ ap (λ l. replicate b 32 ++ (last ++ l)) none
+    ∙ ap (λ l. replicate b 32 ++ l) (append-nil last ∙ copied)
 
 -- the bytes with n in w of them, after the first i
 abbrev over : ℕ → ℕ → ℕ → List ℕ → List ℕ
 over i w n xs = take i xs ++ (columns_for w n ++ drop (i + w) xs)
 
+-- what putting n into a part of w bytes answers, and leaves
+abbrev Put : List ℕ → List ℕ → Bool → ℕ → ℕ → ℕ → Type 0
+Put xs ys r n i w = (r ≡ (leb (i + w) (length xs) && fits_columns w n)) × (ys ≡ cond r (over i w n xs) xs)
+
+module _ (xs : List ℕ) (n i w : ℕ) where
+  -- what stands after the part
+  after : post_of i (i + w - i) xs ≡ drop (i + w) xs
+  after =
+      let k : i + w - i ≡ w = omega arith in
+      ap (λ j. post_of i j xs) k ∙ drop-drop w i xs
+
+  -- the bytes with n in them, or as they were
+  either : (r : Bool) → take i xs ++ (cond r (columns_for w n) (take w (drop i xs)) ++ drop (i + w) xs) ≡ cond r (over i w n xs) xs
+  either true = refl
+  either false =
+      ap (λ l. take i xs ++ (take w (drop i xs) ++ l)) (sym (drop-drop w i xs))
+      ∙ ap (λ l. take i xs ++ l) (take-append-drop w (drop i xs))
+      ∙ take-append-drop i xs
+
+  -- a number put into the part from i to i + w
+  put_between : (last : List ℕ) (r : Bool) → i + w ≤ length xs
+      → r ≡ leb (length (decimal n)) (length (take (i + w - i) (drop i xs)))
+      → last ≡ cond r (columns_for (length (take (i + w - i) (drop i xs))) n) (take (i + w - i) (drop i xs))
+      → Put xs (put_mid i (i + w - i) xs last) r n i w
+  put_between last r room fits is =
+      let k : i + w - i ≡ w = omega arith in
+      let cut : take (i + w - i) (drop i xs) ≡ take w (drop i xs) = ap (λ j. take j (drop i xs)) k in
+      let long : length (take (i + w - i) (drop i xs)) ≡ w = ap length cut ∙ length-take-le w (drop i xs) (omega (arith, length-drop i xs)) in
+      let same : last ≡ cond r (columns_for w n) (take w (drop i xs)) =
+      is ∙ ap (λ l. cond r (columns_for l n) (take (i + w - i) (drop i xs))) long ∙ ap (λ l. cond r (columns_for w n) l) cut
+      in (
+        fits ∙ ap (λ l. leb (length (decimal n)) l) long ∙ sym (ap (λ t. t && fits_columns w n) (le-leb (i + w) (length xs) room)),
+        ap (λ l. take i xs ++ (l ++ post_of i (i + w - i) xs)) same
+            ∙ ap (λ l. take i xs ++ (cond r (columns_for w n) (take w (drop i xs)) ++ l)) after
+            ∙ either r,
+      )
+
+-- the same in the v columns from column k on
+pub put_part : (xs last : List ℕ) (r : Bool) (n i w k v : ℕ) → i ≡ k - 1 → w ≡ v → i + w ≤ length xs
+    → r ≡ leb (length (decimal n)) (length (take (i + w - i) (drop i xs)))
+    → last ≡ cond r (columns_for (length (take (i + w - i) (drop i xs))) n) (take (i + w - i) (drop i xs))
+    → Put xs (put_mid i (i + w - i) xs last) r n (k - 1) v
+put_part xs last r n i w k v first width room fits is =
+    let ys : List ℕ = put_mid i (i + w - i) xs last in
+    subst (λ j. Put xs ys r n j v) first (subst (λ u. Put xs ys r n i u) width (put_between xs n i w last r room fits is))
+
 -- a number that is put has no more digits than columns
 narrow : (t : Bool) (w n : ℕ) → true ≡ (t && fits_columns w n) → length (decimal n) ≤ w
 narrow t w n e = grind arith
+
+second : (t u : Bool) → true ≡ (t && u) → true ≡ u
+second t u e = grind arith
+
+-- so a line whose five numbers are put fits
+pub all_fit : (l : OutputLine) (ta tb tc td te : Bool)
+    → true ≡ (ta && fits_columns 4 l.step) → true ≡ (tb && fits_columns 3 l.answer) → true ≡ (tc && fits_columns 5 l.place)
+    → true ≡ (td && fits_columns 11 l.value) → true ≡ (te && fits_columns 2 l.source)
+    → true ≡ output_fits l
+all_fit l ta tb tc td te fa fb fc fd fe = rw (← second ta _ fa, ← second tb _ fb, ← second tc _ fc, ← second td _ fd, ← second te _ fe)
 
 -- a number that fits takes all its columns
 length_columns : (w n : ℕ) → length (decimal n) ≤ w → length (columns_for w n) ≡ w
