@@ -206,6 +206,9 @@ module _ {V : Type 0} (blank : V) where
         right = tt;
       }
 
+  get_or_unchecked : (xs : List CellRecord) (k : ℕ) → get_or (map unchecked_cell xs) k new_cell ≡ unchecked_cell (get_or xs k new_cell)
+  get_or_unchecked xs k = get_or-map unchecked_cell xs k new_cell
+
   filed_unchecked : (s : State V) (b : Book V) (c : ℕ) → Kept s b → Filed blank s.table.size (record { local = store_of s.locals c; cells = map unchecked_cell (cs s c); journal = js s c })
   filed_unchecked s b c i k e = rw (length-map (cs s c) unchecked_cell) (i.filed c k e)
 
@@ -230,7 +233,7 @@ module _ {V : Type 0} (blank : V) where
               keeps = λ k c' h.
                   entry (λ x. Of blank m v₁ (b k) k c' x) (view s).clients c cl c'
                   (λ e. subst (λ (j : ℕ). Of blank m v₁ (b k) k j cl) (sym e)
-                  (rw (get_or-map unchecked_cell (cs s c) k new_cell, eq-eqb c c refl) (open_own (i.keeps k c h) (unnamed s.table.holder u c) ((i.serves k h).idle (not-true _ u)))))
+                  (rw (get_or_unchecked (cs s c) k, eq-eqb c c refl) (open_own (i.keeps k c h) (unnamed s.table.holder u c) ((i.serves k h).idle (not-true _ u)))))
                   (λ ne. rw (ne_eqb c c' (λ e. ne (sym e))) (open_other (i.keeps k c' h) (unnamed s.table.holder u c')));
               filed = λ c'. entry (Filed blank m) (view s).clients c cl c' (λ _. filed_unchecked s b c i) (λ _. i.filed c');
             }));
@@ -260,7 +263,7 @@ module _ {V : Type 0} (blank : V) where
               serves = λ k h. close_serves (i.keeps k c h) (i.serves k h) mine (clean k h).0 (clean k h).1;
               keeps = λ k c' h.
                   entry (λ x. Of blank m v₁ (b k) k c' x) (view s).clients c cl c'
-                  (λ e. rw (get_or-map unchecked_cell (cs s c) k new_cell) (close_own (i.keeps k c h) (clean k h).0 (clean k h).1))
+                  (λ e. rw (get_or_unchecked (cs s c) k) (close_own (i.keeps k c h) (clean k h).0 (clean k h).1))
                   (λ n. close_other (i.keeps k c' h) (nobody_else s.table.holder c c' mine n));
               filed = λ c'. entry (Filed blank m) (view s).clients c cl c' (λ _. filed_unchecked s b c i) (λ _. i.filed c');
             });
@@ -398,8 +401,8 @@ module _ {V : Type 0} (blank : V) where
 
   get_or_soiled : (xs : List CellRecord) (j : Option ℕ) (k : ℕ) → (names j k ≡ true → k < length xs)
       → get_or (map unchecked_cell (records.soiled xs j)) k new_cell ≡ revived (get_or xs k new_cell) (names j k)
-  get_or_soiled xs None k f = get_or-map unchecked_cell xs k new_cell ∙ grind arith
-  get_or_soiled xs (Some j) k f = get_or-map unchecked_cell (records.soiled xs (Some j)) k new_cell ∙ by (eqb j k) refl
+  get_or_soiled xs None k f = get_or_unchecked xs k ∙ grind arith
+  get_or_soiled xs (Some j) k f = get_or_unchecked (records.soiled xs (Some j)) k ∙ by (eqb j k) refl
     where
       by : (t : Bool) → eqb j k ≡ t → unchecked_cell (get_or (records.soiled xs (Some j)) k new_cell) ≡ revived (get_or xs k new_cell) t
       by true t = let l : k < length xs = f t in let e : j ≡ k = eqb-true j k t in grind (arith, get_or-set_at)
