@@ -20,18 +20,18 @@ fn refused(store: StoreName, cell: u32, operation: Operation, fault: Fault) -> S
 }
 
 // (The six differ in the store that they work and in what that makes of the site. What they share is `refused`;
-// a generic read and write below them would only promise what `Store` does already. Those that read a cell go into
-// their callers, where a sector need not be moved on by each `?` and `map_err`.)
+// a generic read and write below them would only promise what `Store` does already. Those that read a cell tell the
+// outcomes by one `match`, as `ok_or`, `?` and `map_err` would each move a sector on.)
 impl<D: Store, M: Store<Cell = u32>, B: Bank<Cell = D::Cell>> Site<D, M, B> {
     // Cell i of the disk.
-    #[inline(always)]
     pub(super) fn disk_read(&mut self, i: u32) -> Result<D::Cell, SiteFault>
         ensures does { outcome (site_state D.Store M.Store B.Bank self.new) result ≡ disk_read (site_state D.Store M.Store B.Bank self.old) i }
         ensures kept { site_rests D.Store M.Store B.Bank self.new ≡ site_rests D.Store M.Store B.Bank self.old }
     {
-        self.disk
-            .read(i as usize)
-            .map_err(|e| refused(StoreName::Disk, i, Operation::Read, e))
+        match self.disk.read(i as usize) {
+            Ok(v) => Ok(v),
+            Err(e) => Err(refused(StoreName::Disk, i, Operation::Read, e)),
+        }
     }
 
     // Puts v at cell i of the disk.
@@ -65,15 +65,15 @@ impl<D: Store, M: Store<Cell = u32>, B: Bank<Cell = D::Cell>> Site<D, M, B> {
     }
 
     // Cell i of client k's local store.
-    #[inline(always)]
     pub(super) fn local_read(&mut self, k: u32, i: u32) -> Result<D::Cell, SiteFault>
         ensures does { outcome (site_state D.Store M.Store B.Bank self.new) result ≡ local_read (site_state D.Store M.Store B.Bank self.old) k i }
         ensures kept { site_rests D.Store M.Store B.Bank self.new ≡ site_rests D.Store M.Store B.Bank self.old }
     {
-        self.bank
-            .read(k, i as usize)
-            .ok_or(SiteFault::NoClient)?
-            .map_err(|e| refused(StoreName::Local, i, Operation::Read, e))
+        match self.bank.read(k, i as usize) {
+            None => Err(SiteFault::NoClient),
+            Some(Ok(v)) => Ok(v),
+            Some(Err(e)) => Err(refused(StoreName::Local, i, Operation::Read, e)),
+        }
     }
 
     // Puts v at cell i of client k's local store.

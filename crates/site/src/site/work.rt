@@ -23,9 +23,7 @@ impl<D: Store, M: Store<Cell = u32>, B: Bank<Cell = D::Cell>> Site<D, M, B> {
         Ok(session)
     }
 
-    // The cell read, and its source. (A read and a write go into their callers, so that a sector is not moved on from
-    // one function to the next.)
-    #[inline(always)]
+    // The cell read, and its source.
     pub(crate) fn do_read(&mut self, k: u32, i: u32) -> Result<(D::Cell, Source), SiteFault>
         ensures does { outcome (site_state D.Store M.Store B.Bank self.new) result ≡ read_call (site_state D.Store M.Store B.Bank self.old) k i }
         ensures kept { site_rests D.Store M.Store B.Bank self.new ≡ site_rests D.Store M.Store B.Bank self.old }
@@ -46,7 +44,6 @@ impl<D: Store, M: Store<Cell = u32>, B: Bank<Cell = D::Cell>> Site<D, M, B> {
     }
 
     #[tactic(auto, unfolding(rules::specs::Calls::read_local))]
-    #[inline(always)]
     fn read_local(&mut self, k: u32, i: u32) -> Result<(D::Cell, Source), SiteFault>
         ensures does { outcome (site_state D.Store M.Store B.Bank self.new) result ≡ read_local (site_state D.Store M.Store B.Bank self.old) k i }
         ensures kept { site_rests D.Store M.Store B.Bank self.new ≡ site_rests D.Store M.Store B.Bank self.old }
@@ -56,7 +53,6 @@ impl<D: Store, M: Store<Cell = u32>, B: Bank<Cell = D::Cell>> Site<D, M, B> {
     }
 
     #[tactic(auto, unfolding(rules::specs::Calls::read_confirmed))]
-    #[inline(always)]
     fn read_confirmed(
         &mut self,
         k: u32,
@@ -72,7 +68,6 @@ impl<D: Store, M: Store<Cell = u32>, B: Bank<Cell = D::Cell>> Site<D, M, B> {
     }
 
     #[tactic(auto, unfolding(rules::specs::Calls::read_fetched))]
-    #[inline(always)]
     fn read_fetched(
         &mut self,
         k: u32,
@@ -88,6 +83,7 @@ impl<D: Store, M: Store<Cell = u32>, B: Bank<Cell = D::Cell>> Site<D, M, B> {
         Ok((v, Source::Fetched))
     }
 
+    // (It goes into its caller, so that a sector is not moved on.)
     #[inline(always)]
     pub(crate) fn do_write(&mut self, k: u32, i: u32, v: D::Cell) -> Result<(), SiteFault>
         ensures does { outcome (site_state D.Store M.Store B.Bank self.new) result ≡ write_call (site_state D.Store M.Store B.Bank self.old) k i v }
